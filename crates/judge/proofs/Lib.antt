@@ -1,0 +1,6 @@
+mod Rows
+mod Satisfied
+mod Satisfying
+mod Seeks
+mod Unfounded
+mod Told

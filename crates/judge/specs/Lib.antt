@@ -1,0 +1,6 @@
+pub mod BookFaults
+pub mod Books
+pub mod Rules
+pub mod Ways
+pub mod Search
+pub mod Outcome

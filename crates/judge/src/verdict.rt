@@ -1,0 +1,34 @@
+// What a check answers, and why it is refused.
+ghost use mathlib.Core.Path.{_≡_};
+ghost use Rattle.judge.specs.Outcome.{fault-number};
+
+#[derive(Clone, Copy, Debug, PartialEq, Eq)]
+pub enum Verdict {
+    Stands,
+    // The number of the lowest broken rule.
+    Broken(usize),
+    // The earliest unfounded set stands in the caller's place.
+    Unfounded,
+}
+
+#[derive(Clone, Copy, Debug, PartialEq, Eq)]
+pub enum CallFault {
+    // The place for the set is not 32 bytes long.
+    Place,
+    // A rule names a source that the oracle does not have.
+    UnknownSource,
+    // More atoms are in than are searched.
+    Crowded,
+}
+
+impl CallFault {
+    pub fn number(self) -> u8
+        ensures { λ r. ⌜ r ≡ fault-number self ⌝ }
+    {
+        match self {
+            CallFault::Place => 1,
+            CallFault::UnknownSource => 10,
+            CallFault::Crowded => 25,
+        }
+    }
+}

@@ -1,0 +1,3 @@
+mod Growing
+mod Members
+mod Named

@@ -1,0 +1,4 @@
+pub mod Said
+pub mod Padded
+pub mod Written
+pub mod Reports

@@ -1,0 +1,3 @@
+mod Walking
+mod Adding
+mod Opening

@@ -1,0 +1,7 @@
+pub mod Truth
+pub mod Listed
+pub mod Inputs
+pub mod Amounts
+pub mod Sums
+pub mod Tables
+pub mod Weeks
