@@ -1,5 +1,6 @@
 pub mod BookFaults
 pub mod Books
+pub mod CallFaults
 pub mod Rules
 pub mod Ways
 pub mod Search

@@ -16,14 +16,8 @@ use Rattle.semantics.specs.Check.{Checked, fault, answered, checked}
 use Rattle.plans.specs.Bits.{bytes-of}
 use Rattle.judge.specs.declared.verdict.Verdict.{Verdict}
 use Rattle.judge.specs.declared.verdict.Verdict.the-variants.{Stands, Broken, Unfounded}
+use Rattle.judge.specs.CallFaults.{call-name}
 use Rattle.judge.specs.declared.verdict.CallFault.{CallFault}
-use Rattle.judge.specs.declared.verdict.CallFault.the-variants.{Place, UnknownSource, Crowded}
-
--- the number of each refusal
-abbrev pub fault-number : CallFault → ℕ
-fault-number Place = 1
-fault-number UnknownSource = 10
-fault-number Crowded = 25
 
 -- the place where no set is named
 abbrev pub zeros : List ℕ
@@ -38,7 +32,7 @@ abbrev pub Told : Checked → List ℕ → List ℕ → Result Verdict CallFault
 Told c before after (Ok Stands) = (c ≡ answered J.stands) × (after ≡ zeros)
 Told c before after (Ok (Broken n)) = (c ≡ answered (J.broken n)) × (after ≡ zeros)
 Told c before after (Ok Unfounded) = (X : Interp) × (c ≡ answered (J.unfounded X)) × (after ≡ bytes-of X)
-Told c before after (Err f) = (c ≡ fault (fault-number f)) × (after ≡ before)
+Told c before after (Err f) = (c ≡ fault (call-name f .number)) × (after ≡ before)
 
 -- the option of the definitions
 abbrev pub as-option : Option ℕ → O.Option ℕ

@@ -1,6 +1,8 @@
 // What a check answers, and why it is refused.
 ghost use mathlib.Core.Path.{_≡_};
-ghost use Rattle.judge.specs.Outcome.{fault-number};
+ghost use Rattle.judge.specs.CallFaults.{call-name};
+use records::Layer;
+use records::Named;
 
 #[derive(Clone, Copy, Debug, PartialEq, Eq)]
 pub enum Verdict {
@@ -22,13 +24,18 @@ pub enum CallFault {
 }
 
 impl CallFault {
-    pub fn number(self) -> u8
-        ensures { λ r. ⌜ r ≡ fault-number self ⌝ }
+    pub fn named(self) -> Named
+        ensures { λ r. ⌜ r ≡ call-name self ⌝ }
     {
-        match self {
+        let number = match self {
             CallFault::Place => 1,
             CallFault::UnknownSource => 10,
             CallFault::Crowded => 25,
+        };
+        Named {
+            layer: Layer::Call,
+            number,
+            byte: 0,
         }
     }
 }

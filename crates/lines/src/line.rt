@@ -69,7 +69,7 @@ fn write_report(line: &mut Cursor<'_>, report: &Report)
             line.text("plan ");
             line.number(u64::from(*label));
             line.text(" refused ");
-            line.number(u64::from(*number));
+            line.number(*number as u64);
         }
         Report::BadFile {
             file,

@@ -26,7 +26,7 @@ fn report_of<O: Oracle>(book: &Rulebook, oracle: &O, plan: &Plan) -> Report
     match check(book, oracle, &plan.marks, &mut set) {
         Err(fault) => Report::Refused {
             label,
-            number: fault.number(),
+            number: fault.named().number,
         },
         Ok(verdict) => match verdict {
             Verdict::Stands => Report::Stands { label },

@@ -23,7 +23,7 @@ pub enum Report {
     },
     Refused {
         label: u32,
-        number: u8,
+        number: usize,
     },
     BadFile {
         file: File,

@@ -1,23 +1,15 @@
 // The table oracle: a source's truth is the bit whose index its inputs that are in spell.
-ghost use mathlib.Core.Path.{_≡_};
 ghost use Prim.Native.Nat.{_<_, _≤_, _^_};
 ghost use Rattle.std.specs.Orderings.{Decides};
-ghost use Rattle.plans.specs.Bits.{bit-in};
 ghost use Rattle.record_oracles.specs.Tables.{Reaches, table-truth};
 use crate::record_oracle::RecordOracle;
 use crate::source_truth::SourceTruth;
 use plans::PartialPlan;
 use plans::Status;
+use plans::bit_in;
 use sources::TableSource;
 
 pub type TableOracle = RecordOracle<TableSource>;
-
-fn bit_at(bits: &[u8; 32], index: usize) -> bool
-    requires { ⌜ index < 256 ⌝ }
-    ensures { λ r. ⌜ r ≡ bit-in (now (bits .entry)) index ⌝ }
-{
-    (bits[index / 8] >> (index % 8)) % 2 == 1
-}
 
 // Whether the inputs from a place on can still complete the index to one with this bit. Only an open input has two ways.
 fn can_be(source: &TableSource, plan: &PartialPlan, place: usize, index: usize, bit: bool) -> bool
@@ -26,7 +18,7 @@ fn can_be(source: &TableSource, plan: &PartialPlan, place: usize, index: usize, 
     ensures { λ r. ⌜ Decides r (Reaches (now (source .entry)) (now (plan .entry)) place index bit) ⌝ }
 {
     if place == 8 {
-        return bit_at(&source.bits, index) == bit;
+        return bit_in(&source.bits, index as u8) == bit;
     }
     let added = index + (1 << place);
     match plan.status(source.inputs[place]) {

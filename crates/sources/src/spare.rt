@@ -2,6 +2,7 @@
 ghost use mathlib.Core.Path.{_≡_};
 ghost use Prim.Native.Nat.{_-_};
 ghost use Rattle.sources.specs.Spare.{clear-from, spare-bits, spare-numbers};
+use plans::bit_in;
 use records::atoms::used_places;
 use records::fault::all_are;
 
@@ -10,8 +11,7 @@ fn clear_from(bits: &[u8; 32], start: usize) -> bool
     ensures { λ r. ⌜ r ≡ clear-from (now (bits .entry)) start (256 - start) ⌝ }
 {
     for i in start..256 {
-        let byte = bits[i / 8];
-        if (byte >> (i % 8)) % 2 == 1 {
+        if bit_in(bits, i as u8) {
             return false;
         }
     }

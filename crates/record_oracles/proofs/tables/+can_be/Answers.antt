@@ -9,7 +9,7 @@ use Rattle.record_oracles.proofs.tables.+can_be.Needs as need
 pub returns-then-place-eq8 : need.returns-then-place-eq8
 returns-then-place-eq8 t c =
     let all : length (c .args .source .now .inputs) ≤ c .args .place = search needs in
-    end-step (c .args .source .now) (c .args .plan .now) (c .args .place) (c .args .index) (c .args .bit) (c .bit-at .result) all (c .bit-at .ensures)
+    end-step (c .args .source .now) (c .args .plan .now) (c .args .place) (c .args .index) (c .args .bit) (c .bit-in .result) all (c .bit-in .ensures)
 
 pub can-be-requires : need.can-be-requires
 can-be-requires t c κs = let twice = doubled (c .args .place) in (search needs, (omega arith, omega arith))
