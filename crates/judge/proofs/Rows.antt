@@ -19,7 +19,7 @@ use Rattle.plans.specs.declared.partial_plan.PartialPlan.{PartialPlan}
 use Rattle.records.specs.declared.literal.Literal.{Literal}
 use Rattle.records.specs.declared.literal.Literal.the-variants.{Atom, NotAtom, Source, NotSource}
 use Rattle.records.specs.declared.row.RuleRow.{RuleRow}
-use Rattle.judge.specs.Rules.{head-of, body-of, rule-of, rules-of, place-true, place-known, no-row}
+use Rattle.rulebook.specs.Rules.{head-of, body-of, rule-of, rules-of, place-true, place-known, no-row}
 use Rattle.judge.specs.Ways.{Unsettled}
 
 -- a body

@@ -16,7 +16,7 @@ use Rattle.semantics.specs.Judge.{first-broken}
 use Rattle.semantics.specs.Check.{literal-known, sources-known}
 use Rattle.records.specs.declared.literal.Literal.{Literal}
 use Rattle.records.specs.declared.row.RuleRow.{RuleRow}
-use Rattle.judge.specs.Rules.{head-of, body-of, rule-of, rules-of, place-true, place-known, no-row}
+use Rattle.rulebook.specs.Rules.{head-of, body-of, rule-of, rules-of, place-true, place-known, no-row}
 use Rattle.judge.specs.Ways.{HeadIn, Fails, Sat, Known}
 use Rattle.judge.specs.Search.{KnownAll}
 

@@ -20,7 +20,7 @@ use Rattle.records.specs.declared.literal.Literal.the-variants.{Atom, NotAtom, 
 use Rattle.records.specs.declared.row.RuleRow.{RuleRow}
 use Rattle.judge.specs.declared.ways.Ways.{Ways}
 use Rattle.judge.specs.declared.ways.Ways.the-variants.{NoWay, Keep, Remove, Several}
-use Rattle.judge.specs.Rules.{place-true, place-known}
+use Rattle.rulebook.specs.Rules.{place-true, place-known}
 use Rattle.judge.specs.Ways.{Unsettled, Leaves, Asks, HeadIn, Fails, Meets, Sat, Known, ways-and, way-to-fail, is-several}
 
 module _ (p : PartialPlan) (N : Type 0) where

@@ -10,7 +10,7 @@ use Rattle.semantics.specs.Program.{Interp, Meaning, body-true}
 use Rattle.plans.specs.Partial.{full, Within}
 use Rattle.plans.specs.declared.partial_plan.PartialPlan.{PartialPlan}
 use Rattle.records.specs.declared.row.RuleRow.{RuleRow}
-use Rattle.judge.specs.Rules.{rule-of, no-row}
+use Rattle.rulebook.specs.Rules.{rule-of, no-row}
 use Rattle.judge.specs.Ways.{Sat, Known}
 
 -- which rows belong to the reduct: the plan makes their bodies true

@@ -18,7 +18,7 @@ use Rattle.judge.specs.declared.truth.Truth.{Truth}
 use Rattle.judge.specs.declared.truth.Truth.the-variants.{True, False, Unsure}
 use Rattle.judge.specs.declared.ways.Ways.{Ways}
 use Rattle.judge.specs.declared.ways.Ways.the-variants.{NoWay, Keep, Remove, Several}
-use Rattle.judge.specs.Rules.{place-true, place-known}
+use Rattle.rulebook.specs.Rules.{place-true, place-known}
 
 -- why a place of a body is not settled
 abbrev pub Unsettled : Meaning → PartialPlan → Option Literal → Type 0

@@ -4,12 +4,11 @@ ghost use Prim.Native.Nat.{_≤_};
 ghost use lib.ListN.{length};
 ghost use Rattle.std.specs.Of.Vec.{vec-items};
 ghost use Rattle.plans.specs.Bits.{marked};
-ghost use Rattle.judge.specs.Rules.{rules-of};
+ghost use Rattle.rulebook.specs.Rules.{rules-of};
 ghost use Rattle.judge.specs.Outcome.{Told, outcome};
 use crate::reduct::live_rules;
 use crate::reduct::lowest_broken;
 use crate::reduct::rules_known;
-use crate::rulebook::Rulebook;
 use crate::search::search;
 use crate::verdict::CallFault;
 use crate::verdict::Verdict;
@@ -17,6 +16,7 @@ use oracles::Oracle;
 use plans::AtomSet;
 use plans::PartialPlan;
 use records::RuleRow;
+use rulebook::Rulebook;
 
 // The most atoms that may be in when sets are searched.
 const SEARCH_LIMIT: usize = 24;

@@ -2,10 +2,6 @@
 
 // What a check answers, and why it is refused.
 pub mod verdict;
-// Up to 256 rules, numbered from 0.
-pub mod rulebook;
-// Why a rulebook refuses a record.
-pub mod book_fault;
 // The check of a plan.
 pub mod checking;
 // Which rules the plan makes true in the body, and the lowest one that it breaks.
@@ -17,8 +13,6 @@ mod ways;
 // The search for the earliest unfounded set.
 mod search;
 
-pub use book_fault::BookFault;
 pub use checking::check;
-pub use rulebook::Rulebook;
 pub use verdict::CallFault;
 pub use verdict::Verdict;

@@ -6,7 +6,7 @@ ghost use Rattle.semantics.specs.Program.{Meaning, any, all, literal-true};
 ghost use Rattle.semantics.specs.Judge.{first-broken};
 ghost use Rattle.semantics.specs.Check.{literal-known, sources-known};
 ghost use Rattle.plans.specs.Partial.{Decided, full};
-ghost use Rattle.judge.specs.Rules.{head-of, body-of, rules-of, place-known};
+ghost use Rattle.rulebook.specs.Rules.{head-of, body-of, rules-of, place-known};
 ghost use Rattle.judge.specs.Ways.{Known};
 ghost use Rattle.judge.specs.Search.{KnownAll, Live};
 ghost use Rattle.judge.specs.Outcome.{as-option};

@@ -4,7 +4,7 @@ ghost use Rattle.judge.specs.CallFaults.{call-name};
 use records::Layer;
 use records::Named;
 
-#[derive(Clone, Copy, Debug, PartialEq, Eq)]
+#[derive(Clone, Copy)]
 pub enum Verdict {
     Stands,
     // The number of the lowest broken rule.
@@ -13,7 +13,7 @@ pub enum Verdict {
     Unfounded,
 }
 
-#[derive(Clone, Copy, Debug, PartialEq, Eq)]
+#[derive(Clone, Copy)]
 pub enum CallFault {
     // The place for the set is not 32 bytes long.
     Place,

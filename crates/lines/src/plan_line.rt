@@ -3,7 +3,7 @@ ghost use mathlib.Core.Path.{_≡_};
 ghost use Rattle.std.specs.Of.Vec.{vec-items};
 ghost use Rattle.semantics.specs.Check.{checked};
 ghost use Rattle.plans.specs.Bits.{marked};
-ghost use Rattle.judge.specs.Rules.{rules-of};
+ghost use Rattle.rulebook.specs.Rules.{rules-of};
 ghost use Rattle.lines.specs.Padded.{Answered};
 ghost use Rattle.lines.specs.Reports.{said};
 ghost use Rattle.lines.specs.Said.{said-of, line-bytes};
@@ -11,11 +11,11 @@ use crate::few_atoms::FewAtoms;
 use crate::line::write_line;
 use crate::report::Report;
 use judge::CallFault;
-use judge::Rulebook;
 use judge::Verdict;
 use judge::check;
 use oracles::Oracle;
 use records::Plan;
+use rulebook::Rulebook;
 
 // What a check of the plan says.
 fn report_of<O: Oracle>(book: &Rulebook, oracle: &O, plan: &Plan) -> Report

@@ -9,8 +9,8 @@ use Rattle.lines.specs.declared.report.File.{File}
 use Rattle.lines.specs.declared.report.File.the-variants.{House, Site}
 use Rattle.records.specs.declared.run_fault.RunFault.{RunFault}
 use Rattle.records.specs.declared.run_fault.RunFault.the-variants as run
-use Rattle.judge.specs.declared.book_fault.BookFault.{BookFault}
-use Rattle.judge.specs.declared.book_fault.BookFault.the-variants as book
+use Rattle.rulebook.specs.declared.book_fault.BookFault.{BookFault}
+use Rattle.rulebook.specs.declared.book_fault.BookFault.the-variants as book
 use Rattle.office.specs.declared.file_fault.Cause.the-variants as cause
 use Rattle.office.specs.declared.file_fault.FileFault.{FileFault}
 use Rattle.office.specs.declared.file_fault.FileFault.the-variants as file

@@ -15,7 +15,7 @@ use Rattle.records.specs.declared.fault.RecordFault.{RecordFault}
 use Rattle.sources.specs.Judged.{kind-of}
 use Rattle.sources.specs.declared.kind.Kind.{Kind}
 use Rattle.sources.specs.declared.kind.Kind.the-variants.{Table, Sum, Week, Rule, Plan}
-use Rattle.judge.specs.Books.{book-limit}
+use Rattle.rulebook.specs.Books.{book-limit}
 use Rattle.lines.specs.declared.report.File.{File}
 use Rattle.lines.specs.declared.report.File.the-variants.{House, Site}
 use Rattle.office.specs.declared.file_fault.Cause.{Cause}

@@ -3,9 +3,9 @@ ghost use mathlib.Core.Path.{_≡_};
 ghost use Rattle.office.specs.Bad.{in-file, of-run, of-book};
 use crate::file_fault::Cause;
 use crate::file_fault::FileFault;
-use judge::BookFault;
 use lines::File;
 use records::RunFault;
+use rulebook::BookFault;
 
 #[derive(Clone, Copy)]
 pub enum OfficeFault {

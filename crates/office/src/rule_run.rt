@@ -7,8 +7,8 @@ ghost use Rattle.std.specs.Vec.{made};
 ghost use Rattle.office.specs.Added.{AddedRun};
 use crate::office_fault::OfficeFault;
 use crate::office_fault::of_book;
-use judge::Rulebook;
 use lines::File;
+use rulebook::Rulebook;
 
 pub(crate) fn add_rules(book: &mut Rulebook, run: &[u8], file: File) -> Result<(), OfficeFault>
     ensures { λ r. ⌜ made r (λ _. ((n : ℕ) → length (now (run .entry)) ≡ 48 * n → AddedRun (now (run .entry)) (vec-items (now (book .entry) .rows)) (vec-items (now (book .exit) .rows)))) ⌝ }

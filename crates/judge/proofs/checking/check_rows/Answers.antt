@@ -9,7 +9,7 @@ use Rattle.semantics.specs.Judge.{stands, broken, unfounded}
 use Rattle.semantics.specs.Check.{Checked, answered, fault}
 use Rattle.plans.specs.Bits.{marked, bytes-of}
 use Rattle.plans.specs.Partial.{full, removed}
-use Rattle.judge.specs.Rules.{rules-of}
+use Rattle.rulebook.specs.Rules.{rules-of}
 use Rattle.judge.specs.Outcome.{outcome}
 use Rattle.judge.proofs.Satisfied.{rows-known}
 use Rattle.judge.proofs.Told.{told-source, told-broken, told-crowded, told-judged, judged-stands, judged-unfounded, marks-full, marks-decided}

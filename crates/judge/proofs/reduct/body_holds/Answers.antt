@@ -3,7 +3,7 @@ use lib.ListN.{getD}
 use Rattle.std.proofs.shelf.Lists.{at-drop-all}
 use Rattle.semantics.specs.Program.{all, literal-true}
 use Rattle.std.specs.declared.option.Option.the-variants.{None}
-use Rattle.judge.specs.Rules.{body-of}
+use Rattle.rulebook.specs.Rules.{body-of}
 use Rattle.plans.specs.Partial.{full}
 use Rattle.plans.proofs.Partial.{full-within}
 use Rattle.judge.proofs.Rows.{true-more, rest-false, rest-true, unsettled-never}

@@ -1,7 +1,7 @@
 use mathlib.Core.Path.{_≡_}
 use lib.ListN.{drop}
 use Rattle.semantics.specs.Program.{all, literal-true}
-use Rattle.judge.specs.Rules.{body-of}
+use Rattle.rulebook.specs.Rules.{body-of}
 use Rattle.plans.specs.Partial.{full}
 use Rattle.judge.proofs.reduct.body_holds.Given as given
 

@@ -6,7 +6,7 @@ use Rattle.std.proofs.shelf.Lists.{at-drop-all}
 use Rattle.semantics.specs.Program.{all}
 use Rattle.semantics.specs.Check.{literal-known}
 use Rattle.std.specs.declared.option.Option.the-variants.{None}
-use Rattle.judge.specs.Rules.{body-of}
+use Rattle.rulebook.specs.Rules.{body-of}
 use Rattle.judge.proofs.Rows.{known-more, rest-false, rest-true}
 use Rattle.judge.proofs.reduct.body_known.Needs as need
 

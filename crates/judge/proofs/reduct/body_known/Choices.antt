@@ -2,7 +2,7 @@ use mathlib.Core.Path.{_≡_}
 use lib.ListN.{drop}
 use Rattle.semantics.specs.Program.{all}
 use Rattle.semantics.specs.Check.{literal-known}
-use Rattle.judge.specs.Rules.{body-of}
+use Rattle.rulebook.specs.Rules.{body-of}
 use Rattle.judge.proofs.reduct.body_known.Given as given
 
 abbrev pub Inv-loop-t : given.InvT-loop-t

@@ -7,7 +7,7 @@ use Rattle.std.proofs.shelf.Tests.{or-left}
 use Rattle.semantics.specs.Program.{any}
 use Rattle.plans.specs.Partial.{is-in}
 use Rattle.plans.proofs.Partial.{full-place}
-use Rattle.judge.specs.Rules.{head-of}
+use Rattle.rulebook.specs.Rules.{head-of}
 use Rattle.plans.specs.Partial.{full}
 use Rattle.judge.proofs.Rows.{head-more}
 use Rattle.judge.proofs.reduct.head_in.Needs as need

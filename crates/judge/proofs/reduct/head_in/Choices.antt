@@ -1,7 +1,7 @@
 use mathlib.Core.Path.{_≡_}
 use lib.ListN.{drop}
 use Rattle.semantics.specs.Program.{any}
-use Rattle.judge.specs.Rules.{head-of}
+use Rattle.rulebook.specs.Rules.{head-of}
 use Rattle.plans.specs.Partial.{full}
 use Rattle.judge.proofs.reduct.head_in.Given as given
 

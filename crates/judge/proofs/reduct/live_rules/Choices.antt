@@ -4,7 +4,7 @@ use Prim.Native.Nat.{ℕ, _<_}
 use lib.ListN.{length, getD}
 use Rattle.plans.specs.Partial.{Decided}
 use Rattle.semantics.specs.Program.{body-true}
-use Rattle.judge.specs.Rules.{rule-of, no-row}
+use Rattle.rulebook.specs.Rules.{rule-of, no-row}
 use Rattle.plans.specs.Partial.{full}
 use Rattle.judge.specs.Search.{KnownAll}
 use Rattle.judge.proofs.reduct.live_rules.Given as given

@@ -3,7 +3,7 @@ use mathlib.Core.Bool.{Bool, true, false, not, _||_}
 use lib.ListN.{getD}
 use Rattle.std.proofs.shelf.Tests.{or-left, or-right, or-from}
 use Rattle.semantics.specs.Program.{satisfied}
-use Rattle.judge.specs.Rules.{rule-of, no-row}
+use Rattle.rulebook.specs.Rules.{rule-of, no-row}
 use Rattle.plans.specs.Partial.{full}
 use Rattle.judge.proofs.Rows.{broken-more, broken-here, broken-all}
 use Rattle.judge.proofs.reduct.lowest_broken.Needs as need

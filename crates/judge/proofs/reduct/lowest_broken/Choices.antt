@@ -2,7 +2,7 @@ use mathlib.Core.Path.{_≡_}
 use lib.ListN.{drop}
 use Rattle.semantics.specs.Program.{Meaning}
 use Rattle.semantics.specs.Judge.{first-broken}
-use Rattle.judge.specs.Rules.{rules-of}
+use Rattle.rulebook.specs.Rules.{rules-of}
 use Rattle.judge.specs.Search.{Live}
 use Rattle.plans.specs.Partial.{full}
 use Rattle.judge.proofs.reduct.lowest_broken.Given as given

@@ -2,7 +2,7 @@ use mathlib.Core.Path.{_≡_, sym, ap, _∙_}
 use lib.ListN.{drop, getD}
 use Rattle.std.proofs.shelf.Lists.{at-drop-all, at-drop-more}
 use Rattle.semantics.specs.Check.{sources-known}
-use Rattle.judge.specs.Rules.{rules-of, no-row}
+use Rattle.rulebook.specs.Rules.{rules-of, no-row}
 use Rattle.judge.proofs.Rows.{rest-false, rest-true}
 use Rattle.judge.proofs.reduct.rules_known.Needs as need
 

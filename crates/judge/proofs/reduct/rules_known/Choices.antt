@@ -1,7 +1,7 @@
 use mathlib.Core.Path.{_≡_}
 use lib.ListN.{drop}
 use Rattle.semantics.specs.Check.{sources-known}
-use Rattle.judge.specs.Rules.{rules-of}
+use Rattle.rulebook.specs.Rules.{rules-of}
 use Rattle.judge.proofs.reduct.rules_known.Given as given
 
 abbrev pub Inv-loop-row : given.InvT-loop-row

@@ -12,7 +12,7 @@ use Rattle.plans.specs.Bits.{marked, bytes-of}
 use Rattle.judge.specs.Outcome.{zeros, Told}
 use Rattle.judge.specs.declared.verdict.Verdict.{Verdict}
 use Rattle.std.specs.declared.result.Result.the-variants.{Ok}
-use Rattle.judge.specs.Rules.{rule-of, rules-of}
+use Rattle.rulebook.specs.Rules.{rule-of, rules-of}
 use Rattle.lines.specs.Said.{Said, breaks, circle, said-of, members}
 use Rattle.lines.proofs.Named.{named-read, named-fits, label-or}
 use Rattle.lines.proofs.plan_line.report_of.Needs as need

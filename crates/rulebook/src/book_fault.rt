@@ -1,7 +1,7 @@
 // Why a rulebook refuses a record.
 ghost use mathlib.Core.Path.{_≡_};
-ghost use Rattle.judge.specs.declared.book_fault.BookFault.the-variants.{Memory, Record};
-ghost use Rattle.judge.specs.BookFaults.{book-name};
+ghost use Rattle.rulebook.specs.declared.book_fault.BookFault.the-variants.{Memory, Record};
+ghost use Rattle.rulebook.specs.BookFaults.{book-name};
 use records::Layer;
 use records::Named;
 use records::RecordFault;

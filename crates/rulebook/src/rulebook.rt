@@ -6,8 +6,8 @@ ghost use lib.ListN.{length, getD};
 ghost use Rattle.std.specs.Options.{Cases as BySome};
 ghost use Rattle.std.specs.Of.Vec.{vec-len, vec-items};
 ghost use Rattle.semantics.specs.Program.{no-rule};
-ghost use Rattle.judge.specs.Books.{Added};
-ghost use Rattle.judge.specs.Rules.{rules-of};
+ghost use Rattle.rulebook.specs.Books.{Added};
+ghost use Rattle.rulebook.specs.Rules.{rules-of};
 use crate::book_fault::BookFault;
 use crate::book_fault::BookFaultFromRecord;
 use crate::book_fault::BookFaultFromRefused;
@@ -58,7 +58,8 @@ impl Rulebook {
         }
     }
 
-    pub(crate) fn rows(&self) -> &[RuleRow]
+    // The rules in the order of their numbers.
+    pub fn rows(&self) -> &[RuleRow]
         ensures value { λ r. ⌜ now r ≡ vec-items (now (self .entry) .rows) ⌝ }
         ensures bound { λ r. ⌜ length (now r) ≤ 256 ⌝ }
     {

@@ -4,8 +4,8 @@ use Rattle.std.specs.declared.option.Option.the-variants.{Some, None}
 use Rattle.records.specs.Faults.{fault-name}
 use Rattle.records.specs.declared.fault.Layer.the-variants.{Book}
 use Rattle.records.specs.declared.fault.Named.{Named}
-use Rattle.judge.specs.declared.book_fault.BookFault.{BookFault}
-use Rattle.judge.specs.declared.book_fault.BookFault.the-variants.{Memory, Record, Full}
+use Rattle.rulebook.specs.declared.book_fault.BookFault.{BookFault}
+use Rattle.rulebook.specs.declared.book_fault.BookFault.the-variants.{Memory, Record, Full}
 
 -- want of memory has no number
 abbrev pub book-name : BookFault → Option Named

@@ -5,9 +5,9 @@ use lib.ListN.{length}
 use Rattle.std.specs.Of.Vec.{vec-items}
 use Rattle.semantics.specs.Program.{Rule, no-rule}
 use Rattle.records.specs.declared.row.RuleRow.{RuleRow}
-use Rattle.judge.specs.Rules.{rule-of}
+use Rattle.rulebook.specs.Rules.{rule-of}
 use Rattle.std.proofs.shelf.Lists.{getD-map}
-use Rattle.judge.proofs.rulebook.Rulebook.label.Needs as need
+use Rattle.rulebook.proofs.rulebook.Rulebook.label.Needs as need
 
 pub returns-then-number-len : need.returns-then-number-len
 returns-then-number-len c =

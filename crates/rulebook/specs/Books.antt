@@ -10,8 +10,8 @@ use Rattle.records.specs.Rows.{row-of}
 use Rattle.records.specs.Rules.{rule-image, rule-fault}
 use Rattle.records.specs.declared.row.RuleRow.{RuleRow}
 use Rattle.records.specs.declared.rule.Rule.{Rule}
-use Rattle.judge.specs.declared.book_fault.BookFault.{BookFault}
-use Rattle.judge.specs.declared.book_fault.BookFault.the-variants.{Memory, Record, Full}
+use Rattle.rulebook.specs.declared.book_fault.BookFault.{BookFault}
+use Rattle.rulebook.specs.declared.book_fault.BookFault.the-variants.{Memory, Record, Full}
 
 -- a book holds no more rules than this
 abbrev pub book-limit : ℕ

@@ -1,0 +1,3 @@
+pub mod BookFaults
+pub mod Books
+pub mod Rules
