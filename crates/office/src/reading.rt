@@ -26,7 +26,7 @@ pub(crate) fn read_records<K: Record>(
 ) -> Result<Vec<K::Decoded>, OfficeFault>
 where
     K::Decoded: Drop,
-    ensures { IfOk result (λ v. flat_map image v.items ≡ run.now) }
+    ensures { IfOk result (λ v. flat_map K.image v.items ≡ run.now) }
 {
     match read_run::<K>(heap, run) {
         Ok(values) => Ok(values),

@@ -11,7 +11,7 @@ use std::alloc::Global;
 pub fn read_run<K: Record>(heap: Global, bytes: &[u8]) -> Result<Vec<K::Decoded>, RunFault>
 where
     K::Decoded: Drop,
-    ensures { ReadRun image fault bytes.now result }
+    ensures { ReadRun K.image K.fault bytes.now result }
 {
     let count = bytes.len() / 48;
     if bytes.len() % 48 != 0 || count > 512 {
@@ -28,7 +28,7 @@ where
 
 pub fn write_run<K: Record>(values: &[K::Decoded], place: &mut [u8]) -> Result<(), RunFault>
     ensures fault { result ≡ (if place_fits (length values.now) (length place.old) then Ok tt else Err Run) }
-    ensures bytes { place.new ≡ (if place_fits (length values.now) (length place.old) then flat_map image values.now else place.old) }
+    ensures bytes { place.new ≡ (if place_fits (length values.now) (length place.old) then flat_map K.image values.now else place.old) }
 {
     let count = values.len();
     if count > 512 || place.len() / 48 != count || place.len() % 48 != 0 {
@@ -43,7 +43,7 @@ pub fn write_run<K: Record>(values: &[K::Decoded], place: &mut [u8]) -> Result<(
 
 // What is written is read back, and a run has one reading.
 pub fn runs_stand<K: Record>() -> u8
-    ensures { RunsStand image fault }
+    ensures { RunsStand K.image K.fault }
 {
     0
 }
@@ -66,7 +66,7 @@ where
 pub fn check_run<K: Record>(bytes: &[u8]) -> Result<usize, RunFault>
 where
     K::Decoded: Drop,
-    ensures { result ≡ count_of fault bytes.now }
+    ensures { result ≡ count_of K.fault bytes.now }
 {
     let count = bytes.len() / 48;
     if bytes.len() % 48 != 0 || count > 512 {
@@ -81,7 +81,7 @@ where
 
 // The clauses of `decode` leave it one answer.
 pub fn decoding_decided<K: Record>() -> u8
-    ensures { Decided image fault }
+    ensures { Decided K.image K.fault }
 {
     0
 }

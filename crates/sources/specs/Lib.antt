@@ -7,5 +7,5 @@ pub mod Judged
 pub mod SourcesLemmas
 pub mod TablesLemmas
 pub mod SumsLemmas
-pub mod Terms
+pub mod TermsLemmas
 pub mod WeeksLemmas

@@ -16,7 +16,7 @@ use Rattle.sources.specs.declared.sum_source.Weighted.{Weighted}
 use Rattle.sources.specs.declared.sum_source.SumSource.{SumSource}
 use Rattle.sources.specs.Spare.{spare_numbers}
 use Rattle.sources.specs.Sums.{sum_fields, sum_image, sum_tests, sum_fault}
-use Rattle.sources.specs.Terms.{terms_single, numbers_single, numbers_long}
+use Rattle.sources.specs.TermsLemmas.{terms_single, numbers_single, numbers_long}
 
 pub sum_long : (s : SumSource) → Long (sum_fields s)
 sum_long s = record {

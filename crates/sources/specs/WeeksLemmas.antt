@@ -18,7 +18,7 @@ use Rattle.sources.specs.declared.week_source.Dated.{Dated}
 use Rattle.sources.specs.declared.week_source.WeekSource.{WeekSource}
 use Rattle.sources.specs.Spare.{spare_numbers}
 use Rattle.sources.specs.Weeks.{week_fields, week_image, week_tail, week_tests, week_fault}
-use Rattle.sources.specs.Terms.{terms_single, numbers_single, numbers_long}
+use Rattle.sources.specs.TermsLemmas.{terms_single, numbers_single, numbers_long}
 
 pub week_long : (s : WeekSource) → Long (week_fields s)
 week_long s = record {

@@ -13,7 +13,7 @@ use records::{Flaw, PlanRecord, Record, RecordFault, RuleRecord};
 fn judged<K: Record>(bytes: &[u8], kind: Kind) -> Result<Kind, RecordFault>
 where
     K::Decoded: Drop,
-    ensures { result ≡ unless (fault bytes.now) kind }
+    ensures { result ≡ unless (K.fault bytes.now) kind }
 {
     match K::decode(bytes) {
         Ok(_) => Ok(kind),

@@ -37,9 +37,9 @@ fn number_at(body: &[u8; 32], place: usize) -> u32
 
 // The terms of an atom list and a body.
 pub fn read_terms<T: Term>(atoms: &[u8; 8], body: &[u8; 32]) -> [T; 8]
-    ensures atoms { map input result ≡ atoms.now }
-    ensures body { flat_map le4 (map amount result) ≡ body.now }
-    ensures small { (k : ℕ) → slice_index (map amount result) k < 2 ^ 32 }
+    ensures atoms { map T.input result ≡ atoms.now }
+    ensures body { flat_map le4 (map T.amount result) ≡ body.now }
+    ensures small { (k : ℕ) → slice_index (map T.amount result) k < 2 ^ 32 }
 {
     let mut terms = [T::of(255, 0); 8];
     for i in 0..8 {
@@ -49,7 +49,7 @@ pub fn read_terms<T: Term>(atoms: &[u8; 8], body: &[u8; 32]) -> [T; 8]
 }
 
 pub fn atoms_of<T: Term>(terms: &[T; 8]) -> [u8; 8]
-    ensures { result ≡ map input terms.now }
+    ensures { result ≡ map T.input terms.now }
 {
     let mut atoms = [0; 8];
     for i in 0..8 {
@@ -59,7 +59,7 @@ pub fn atoms_of<T: Term>(terms: &[T; 8]) -> [u8; 8]
 }
 
 pub fn numbers_of<T: Term>(terms: &[T; 8]) -> [u8; 32]
-    ensures { result ≡ flat_map le4 (map amount terms.now) }
+    ensures { result ≡ flat_map le4 (map T.amount terms.now) }
 {
     let mut bytes = [0; 32];
     for i in 0..8 {

@@ -8,6 +8,6 @@ use Rattle.judge.proofs.checking.check.Goals as goal
 pub returns : goal.returns
 returns g c =
     subst
-    (λ (rows : List RuleRow). Told (outcome (rules_of rows) (g.O.Oracle.meaning c.args.oracle.now) (marked c.args.marks.now.bytes) c.args.place.now) c.args.place.now c.check-rows.new.place c.check-rows.result)
+    (λ (rows : List RuleRow). Told (outcome (rules_of rows) (g.O.Oracle.meaning c.args.oracle.now) (marked c.args.marks.now.bytes) c.args.place.now) c.args.place.now c.check_rows.new.place c.check_rows.result)
     c.rows.ensures.value
-    c.check-rows.ensures
+    c.check_rows.ensures

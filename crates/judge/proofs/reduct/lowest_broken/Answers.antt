@@ -5,14 +5,14 @@ use Rattle.rulebook.specs.Rules.{rule_of, no_row}
 use Rattle.plans.specs.Partial.{full}
 use Rattle.judge.proofs.Rows.{broken_more, broken_here, broken_all}
 use Rattle.judge.proofs.reduct.lowest_broken.Goals as goal
-use Rattle.judge.proofs.reduct.lowest_broken.Goals.{else-live-i-via-then-live-i+else-not-head-in, else-live-i-via-else-live-i}
+use Rattle.judge.proofs.reduct.lowest_broken.Goals.{else-live-i-via-then-live-i+else-not-head_in, else-live-i-via-else-live-i}
 
-pub returns-then-not-head-in : goal.returns-then-not-head-in
-returns-then-not-head-in c m live =
+pub returns-then-not-head_in : goal.returns-then-not-head_in
+returns-then-not-head_in c m live =
     let p = c.args.plan.now in
     let i = c.loop-i.i in
     let lt = c.loop-i-test.true in
-    sym (c.loop-i.invariant m live ∙ broken_here m (full p) c.args.rows.now i lt (or_from _ _ (ap not (sym (live i lt) ∙ c.if-live-i.true)) (sym c.head-in.ensures ∙ c.if-not-head-in.true)))
+    sym (c.loop-i.invariant m live ∙ broken_here m (full p) c.args.rows.now i lt (or_from _ _ (ap not (sym (live i lt) ∙ c.if-live-i.true)) (sym c.head_in.ensures ∙ c.if-not-head_in.true)))
 
 pub loop-i-preserved : goal.loop-i-preserved
 loop-i-preserved c m live =
@@ -21,7 +21,7 @@ loop-i-preserved c m live =
     let lt = c.loop-i-test.true in
     let sat : satisfied m (full p) (rule_of (get_or c.args.rows.now i no_row)) ≡ true =
     elim c.else-live-i.branch [
-      | else-live-i-via-then-live-i+else-not-head-in w ↦ or_right _ _ (sym w.head-in.ensures ∙ w.if-not-head-in.false)
+      | else-live-i-via-then-live-i+else-not-head_in w ↦ or_right _ _ (sym w.head_in.ensures ∙ w.if-not-head_in.false)
       | else-live-i-via-else-live-i w ↦ or_left _ _ (ap not (sym (live i lt) ∙ w.if-live-i.false))
     ] in
     c.loop-i.invariant m live ∙ broken_more m (full p) c.args.rows.now i lt sat

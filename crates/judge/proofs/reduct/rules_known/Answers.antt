@@ -5,15 +5,15 @@ use Rattle.rulebook.specs.Rules.{rules_of, no_row}
 use Rattle.judge.proofs.Rows.{rest_false, rest_true}
 use Rattle.judge.proofs.reduct.rules_known.Goals as goal
 
-pub returns-then-not-body-known : goal.returns-then-not-body-known
-returns-then-not-body-known g c =
+pub returns-then-not-body_known : goal.returns-then-not-body_known
+returns-then-not-body_known g c =
     let b = g.O.Oracle.meaning c.args.oracle.now in
-    sym (c.loop-row.invariant ∙ rest_false _ _ _ (at_drop_more (λ l. sources_known b (rules_of l)) c.args.rows.now c.loop-row.row-index no_row c.loop-row-test.true) (sym c.body_known.ensures ∙ c.if-not-body-known.true))
+    sym (c.loop-row.invariant ∙ rest_false _ _ _ (at_drop_more (λ l. sources_known b (rules_of l)) c.args.rows.now c.loop-row.row-index no_row c.loop-row-test.true) (sym c.body_known.ensures ∙ c.if-not-body_known.true))
 
 pub loop-row-preserved : goal.loop-row-preserved
 loop-row-preserved g c =
     let b = g.O.Oracle.meaning c.args.oracle.now in
-    c.loop-row.invariant ∙ rest_true _ _ _ (at_drop_more (λ l. sources_known b (rules_of l)) c.args.rows.now c.loop-row.row-index no_row c.loop-row-test.true) (sym c.body_known.ensures ∙ c.if-not-body-known.false)
+    c.loop-row.invariant ∙ rest_true _ _ _ (at_drop_more (λ l. sources_known b (rules_of l)) c.args.rows.now c.loop-row.row-index no_row c.loop-row-test.true) (sym c.body_known.ensures ∙ c.if-not-body_known.false)
 
 pub returns : goal.returns
 returns g c =

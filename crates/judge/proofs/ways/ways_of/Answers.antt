@@ -36,8 +36,8 @@ loop-t-preserved g c =
     let r = c.args.row.now in
     let i = c.loop-t.t-index in
     let F : Ways → Type 0 = Leaves p (Meets m r (length r.head) (i + 1)) (Known m r.body) in
-    let at_left : (x : Ways) → c.match-truth-of.left ≡ x → F x → F c.match-truth-of.left = λ x e. subst F (sym e) in
-    elim c.match-truth-of.branch [
+    let at_left : (x : Ways) → c.match-truth_of.left ≡ x → F x → F c.match-truth_of.left = λ x e. subst F (sym e) in
+    elim c.match-truth_of.branch [
       | in-True w ↦ at_left _ w.left-is (body_true m p r i c.loop-t.left c.loop-t.invariant w.in-True.ensures)
       | in-Unsure w ↦
           at_left _ (w.left-is ∙ w.and-left-in-Unsure.ensures ∙ ap (ways_and c.loop-t.left) w.way_to_fail.ensures)
@@ -48,10 +48,10 @@ pub returns : goal.returns
 returns g c =
     done (g.O.Oracle.meaning c.args.oracle.now) c.args.rest.now c.args.row.now c.loop-t.t-index c.loop-t.left c.loop-t-test.false c.loop-t.invariant
 
-pub returns-then-is-several : goal.returns-then-is-several
-returns-then-is-several g c =
+pub returns-then-is_several : goal.returns-then-is_several
+returns-then-is_several g c =
     let m = g.O.Oracle.meaning c.args.oracle.now in
     let p = c.args.rest.now in
     let r = c.args.row.now in
-    let is = several_is c.loop-t.left (sym c.is_several.ensures ∙ c.if-is-several.true) in
+    let is = several_is c.loop-t.left (sym c.is_several.ensures ∙ c.if-is_several.true) in
     given_up m p r c.loop-t.t-index (subst (Leaves p (Meets m r (length r.head) c.loop-t.t-index) (Known m r.body)) is c.loop-t.invariant)

@@ -30,7 +30,7 @@ returns-in-Broken g c =
     let marks = c.args.plan.now.marks.bytes in
     let t : (checked rules m (marked marks) ≡ answered (broken c.in-Broken.n)) × (c.check.new.place ≡ zeros) = subst (λ (v : Verdict). Told (checked rules m (marked marks)) (replicate 32 0) c.check.new.place (Ok v)) c.in-Broken.is c.in-Ok.ensures in
     let long : vec_len rows ≡ length rules = rows.ok.0 ∙ sym (length-map (vec_items rows) rule_of) in
-    ap (breaks label) (c.unwrap-or.ensures ∙ label_or c.label.result rules (vec_len rows) c.in-Broken.n long c.label.ensures)
+    ap (breaks label) (c.unwrap_or.ensures ∙ label_or c.label.result rules (vec_len rows) c.in-Broken.n long c.label.ensures)
     ∙ sym (ap (said_of label rules) t.0)
 
 pub returns-in-Some : goal.returns-in-Some

@@ -8,12 +8,12 @@ pub returns : goal.returns
 returns c =
     let house = c.args.house.now.rules.now in
     let site = c.args.site.now.rules.now in
-    let rows = vec_items c.add-rules-2.new.book.rows in
+    let rows = vec_items c.add_rules-2.new.book.rows in
     record {
-      house_sources = c.in-ok-first.ensures;
-      site_sources = c.in-ok-second.ensures;
+      house_sources = c.in_ok-first.ensures;
+      site_sources = c.in_ok-second.ensures;
       rules = λ n k e f.
           subst (λ (before : List RuleRow). AddedRun (house ++ site) before rows) c.new-book.ensures
-          (added_both house site (vec_items c.new-book.result.rows) (vec_items c.add-rules.new.book.rows) rows (c.in-ok-add-rules.ensures n e) (c.in-ok-add-rules-2.ensures k f));
-      plans = c.in-ok-plans.ensures;
+          (added_both house site (vec_items c.new-book.result.rows) (vec_items c.add_rules.new.book.rows) rows (c.in_ok-add_rules.ensures n e) (c.in_ok-add_rules-2.ensures k f));
+      plans = c.in_ok-plans.ensures;
     }

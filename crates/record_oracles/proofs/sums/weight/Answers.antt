@@ -8,7 +8,7 @@ use Rattle.record_oracles.proofs.sums.weight.Goals.{then-counts, else-counts}
 
 pub loop-t-preserved : goal.loop-t-preserved
 loop-t-preserved c =
-    let more = weight_more c.args.open-in c.args.plan.now c.args.source.now.terms c.loop-t.t-index in
+    let more = weight_more c.args.open_in c.args.plan.now c.args.source.now.terms c.loop-t.t-index in
     let within : c.loop-t.t-index < length c.args.source.now.terms = search rules in
     elim c.if-counts.branch [
       | then-counts w ↦
@@ -22,4 +22,4 @@ loop-t-preserved c =
 pub returns : goal.returns
 returns c =
     let all : length c.args.source.now.terms ≤ c.loop-t.t-index = search rules in
-    omega (arith, c.loop-t.invariant.0, at_drop_all (weight_in (filled c.args.open-in c.args.plan.now)) c.args.source.now.terms c.loop-t.t-index all)
+    omega (arith, c.loop-t.invariant.0, at_drop_all (weight_in (filled c.args.open_in c.args.plan.now)) c.args.source.now.terms c.loop-t.t-index all)

@@ -5,5 +5,5 @@ use Rattle.record_oracles.proofs.sums.weight.Given as goal
 
 abbrev pub invariant-loop-t : goal.invariant-loop-t
 invariant-loop-t l =
-    (l.sum + weight_in (filled l.open-in l.plan) (drop l.t-index l.terms) ≡ weight_in (filled l.open-in l.plan) l.terms)
+    (l.sum + weight_in (filled l.open_in l.plan) (drop l.t-index l.terms) ≡ weight_in (filled l.open_in l.plan) l.terms)
     × (l.sum ≤ l.t-index * 2 ^ 32)

@@ -6,5 +6,5 @@ use Rattle.record_oracles.proofs.weeks.falls_in.Given as goal
 
 abbrev pub invariant-loop-t : goal.invariant-loop-t
 invariant-loop-t l =
-    among l.week (weeks_in (filled l.open-in l.plan) l.first l.terms)
-    ≡ among l.week (weeks_in (filled l.open-in l.plan) l.first (drop l.t-index l.terms))
+    among l.week (weeks_in (filled l.open_in l.plan) l.first l.terms)
+    ≡ among l.week (weeks_in (filled l.open_in l.plan) l.first (drop l.t-index l.terms))

@@ -2,17 +2,17 @@ use Rattle.std.proofs.Common.{rules}
 use Rattle.records.specs.Frames.{frame_fault}
 use Rattle.records.proofs.fields.check_frame.Goals as goal
 
-pub returns-in-err-demand : goal.returns-in-err-demand
+pub returns-in_err-demand : goal.returns-in_err-demand
 unfolding frame_fault
-returns-in-err-demand c = search rules
+returns-in_err-demand c = search rules
 
-pub returns-in-err-demand-2 : goal.returns-in-err-demand-2
+pub returns-in_err-demand-2 : goal.returns-in_err-demand-2
 unfolding frame_fault
-returns-in-err-demand-2 c = search rules
+returns-in_err-demand-2 c = search rules
 
-pub returns-in-err-demand-3 : goal.returns-in-err-demand-3
+pub returns-in_err-demand-3 : goal.returns-in_err-demand-3
 unfolding frame_fault
-returns-in-err-demand-3 c = search rules
+returns-in_err-demand-3 c = search rules
 
 pub returns : goal.returns
 unfolding frame_fault

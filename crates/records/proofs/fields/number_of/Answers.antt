@@ -4,4 +4,4 @@ use Rattle.records.specs.Bytes.{le4_read}
 use Rattle.records.proofs.fields.number_of.Goals as goal
 
 pub returns : goal.returns
-returns c = ap le4 c.from-le-bytes.ensures ∙ le4_read c.args.bytes.now c.told-bytes c.fits-bytes
+returns c = ap le4 c.from_le_bytes.ensures ∙ le4_read c.args.bytes.now c.told-bytes c.fits-bytes

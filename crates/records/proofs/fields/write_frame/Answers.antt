@@ -8,10 +8,10 @@ pub returns : goal.returns
 returns c =
     let f = c.args.fields.now in
     let place = c.args.place.now in
-    let h : eqb (length place) 48 ≡ true = demanded_ok _ _ _ (sym c.demand.ensures ∙ c.in-ok-demand.was) in
+    let h : eqb (length place) 48 ≡ true = demanded_ok _ _ _ (sym c.demand.ensures ∙ c.in_ok-demand.was) in
     let long : Long f = record { atoms = omega arith; body = omega arith; tail = omega arith } in
     record {
-      fault = sym c.in-ok-demand.was ∙ c.demand.ensures;
+      fault = sym c.in_ok-demand.was ∙ c.demand.ensures;
       bytes = frame_written c.args.letter c.args.form f long place _ _ _ _ (eqb-true _ _ h)
-          c.copy-from-slice.ensures.after c.copy-from-slice-2.ensures.after c.copy-from-slice-3.ensures.after c.copy-from-slice-4.ensures.after ∙ sym (cond-true _ _ _ h);
+          c.copy_from_slice.ensures.after c.copy_from_slice-2.ensures.after c.copy_from_slice-3.ensures.after c.copy_from_slice-4.ensures.after ∙ sym (cond-true _ _ _ h);
     }

@@ -11,7 +11,7 @@ loop-i-preserved c =
     let i = c.loop-i.i in
     let in' : i < length body = omega (arith, c.told-body) in (
       simp length-set c.loop-i.invariant.0,
-      bytes_more c.loop-i.bytes body i (get_or body i None) c.pair-of-pair.result (omega arith) in' c.pair-of-pair.ensures refl c.loop-i.invariant.1,
+      bytes_more c.loop-i.bytes body i (get_or body i None) c.pair_of-pair.result (omega arith) in' c.pair_of-pair.ensures refl c.loop-i.invariant.1,
     )
 
 pub returns : goal.returns

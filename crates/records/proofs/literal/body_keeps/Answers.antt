@@ -9,16 +9,16 @@ pub returns-in-None : goal.returns-in-None
 returns-in-None c =
     let bs = c.args.bytes.now in
     let i = c.loop-i.i in
-    let none : is_some (literal_of (get_or bs (2 * i) 0) (get_or bs (2 * i + 1) 0)) ≡ false = ap is_some (sym c.read-literal.ensures ∙ c.in-None.is) in
+    let none : is_some (literal_of (get_or bs (2 * i) 0) (get_or bs (2 * i + 1) 0)) ≡ false = ap is_some (sym c.read_literal.ensures ∙ c.in-None.is) in
     let step = rw none at (body_step bs i (omega arith)) in
     let all : take (32 - 2 * i) (drop (2 * i) bs) ≡ drop (2 * i) bs = take_all (32 - 2 * i) (drop (2 * i) bs) (simp length-drop (omega arith)) in
-    c.all-are.ensures ∙ ap (all_are 0) all ∙ sym step ∙ c.loop-i.invariant
+    c.all_are.ensures ∙ ap (all_are 0) all ∙ sym step ∙ c.loop-i.invariant
 
 pub loop-i-preserved : goal.loop-i-preserved
 loop-i-preserved c =
     let bs = c.args.bytes.now in
     let i = c.loop-i.i in
-    let some : is_some (literal_of (get_or bs (2 * i) 0) (get_or bs (2 * i + 1) 0)) ≡ true = ap is_some (sym c.read-literal.ensures ∙ c.in-default.is) in
+    let some : is_some (literal_of (get_or bs (2 * i) 0) (get_or bs (2 * i + 1) 0)) ≡ true = ap is_some (sym c.read_literal.ensures ∙ c.in_default.is) in
     let step = rw some at (body_step bs i (omega arith)) in
     sym step ∙ c.loop-i.invariant
 

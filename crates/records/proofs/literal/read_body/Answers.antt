@@ -7,7 +7,7 @@ use Rattle.records.proofs.literal.read_body.Goals as goal
 pub loop-i-preserved : goal.loop-i-preserved
 loop-i-preserved c = (
   simp length-set c.loop-i.invariant.0,
-  body_more c.args.bytes.now c.loop-i.body c.loop-i.i _ (omega arith) (omega arith) c.read-literal.ensures c.loop-i.invariant.1,
+  body_more c.args.bytes.now c.loop-i.body c.loop-i.i _ (omega arith) (omega arith) c.read_literal.ensures c.loop-i.invariant.1,
 )
 
 pub returns : goal.returns

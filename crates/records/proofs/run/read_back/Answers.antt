@@ -8,6 +8,6 @@ pub returns : goal.returns
 returns g c =
     let xs = c.args.values.now in
     let n = length c.args.place.now in
-    let fits : place_fits (length xs) n ≡ true = was_ok _ _ _ _ c.write-run.ensures.fault c.in-ok-write-run.was in
-    let written = c.write-run.ensures.bytes ∙ cond-true _ _ _ fits in
-    back g.K.Record.image g.K.Record.fault (stands g.K.Record.image g.K.Record.fault g.met.K.Record.size g.met.K.Record.clean g.met.K.Record.single) xs _ n fits written c.read-run.result c.read-run.ensures
+    let fits : place_fits (length xs) n ≡ true = was_ok _ _ _ _ c.write_run.ensures.fault c.in_ok-write_run.was in
+    let written = c.write_run.ensures.bytes ∙ cond-true _ _ _ fits in
+    back g.K.Record.image g.K.Record.fault (stands g.K.Record.image g.K.Record.fault g.met.K.Record.size g.met.K.Record.clean g.met.K.Record.single) xs _ n fits written c.read_run.result c.read_run.ensures

@@ -2,7 +2,7 @@ use Rattle.std.proofs.Common.{◌≡◌, ℕ, ◌*◌, ◌^◌, ◌<◌, map, ge
 use Rattle.std.proofs.lemmas.List.{take_all, length-set}
 use Rattle.std.specs.List.{flat_map}
 use Rattle.records.specs.Numbers.{le4}
-use Rattle.sources.specs.Terms.{read_term}
+use Rattle.sources.specs.TermsLemmas.{read_term}
 use Rattle.sources.proofs.term.read_terms.Goals as goal
 
 pub loop-i-init : goal.loop-i-init
@@ -10,8 +10,8 @@ loop-i-init g c = record { long = refl; inputs = refl; numbers = refl; small = �
 
 pub loop-i-preserved : goal.loop-i-preserved
 loop-i-preserved g c =
-    read_term g.T.Term.input g.T.Term.amount c.loop-i.i c.loop-i.terms c.args.atoms.now c.args.body.now c.of.result c.number-at.result
-    c.loop-i-test.true c.told-atoms c.loop-i.invariant c.of.ensures.input c.of.ensures.amount c.number-at.type-inv c.number-at.ensures (simp length-set c.loop-i.invariant.long)
+    read_term g.T.Term.input g.T.Term.amount c.loop-i.i c.loop-i.terms c.args.atoms.now c.args.body.now c.of.result c.number_at.result
+    c.loop-i-test.true c.told-atoms c.loop-i.invariant c.of.ensures.input c.of.ensures.amount c.number_at.type_inv c.number_at.ensures (simp length-set c.loop-i.invariant.long)
 
 pub returns : goal.returns
 returns g c =

@@ -1,4 +1,4 @@
-use Rattle.sources.specs.Terms.{Read}
+use Rattle.sources.specs.TermsLemmas.{Read}
 use Rattle.sources.proofs.term.read_terms.Given as goal
 
 abbrev pub invariant-loop-i : goal.invariant-loop-i

@@ -11,14 +11,14 @@ pub returns : goal.returns
 returns c =
     let house = c.args.house.now in
     let site = c.args.site.now in
-    let first = c.in-ok-first.first in
-    let second = c.in-ok-second.second in
-    let h = c.runs-of.result in
-    let s = c.runs-of-2.result in
+    let first = c.in_ok-first.first in
+    let second = c.in_ok-second.second in
+    let h = c.runs_of.result in
+    let s = c.runs_of-2.result in
     let house_read : file_read House none house ≡ Ok (counts_of first) =
-    subst (λ (b : Counts). file_read House b house ≡ Ok (counts_of first)) c.none-before.ensures (good_file House c.read-sections.result first _ c.in-ok-first.ensures c.read-sections.ensures.read) in
+    subst (λ (b : Counts). file_read House b house ≡ Ok (counts_of first)) c.none-before.ensures (good_file House c.read_sections.result first _ c.in_ok-first.ensures c.read_sections.ensures.read) in
     let site_read : file_read Site (counts_of first) site ≡ Ok (counts_of second) =
-    good_file Site c.read-sections-2.result second _ c.in-ok-second.ensures c.read-sections-2.ensures.read in
+    good_file Site c.read_sections-2.result second _ c.in_ok-second.ensures c.read_sections-2.ensures.read in
     let built : IfOk c.build.result (λ (o : Office). Built h.tables.now h.sums.now h.weeks.now h.rules.now s.tables.now s.sums.now s.weeks.now s.rules.now s.plans.now o) = c.build.ensures in
     record {
       bad = λ e bad. none_bad house site (counts_of first) (counts_of second) e house_read site_read bad;
@@ -34,9 +34,9 @@ returns c =
             house_plans = h.plans.now;
             site_rules = s.rules.now;
             site_plans = s.plans.now;
-            house_held = record { tables = h.tables.now; sums = h.sums.now; weeks = h.weeks.now; cut = c.runs-of.ensures; sources = b.house_sources };
-            site_held = record { tables = s.tables.now; sums = s.sums.now; weeks = s.weeks.now; cut = c.runs-of-2.ensures; sources = b.site_sources };
-            rules_held = b.rules first.rules second.rules c.runs-of.ensures.rules_long c.runs-of-2.ensures.rules_long;
+            house_held = record { tables = h.tables.now; sums = h.sums.now; weeks = h.weeks.now; cut = c.runs_of.ensures; sources = b.house_sources };
+            site_held = record { tables = s.tables.now; sums = s.sums.now; weeks = s.weeks.now; cut = c.runs_of-2.ensures; sources = b.site_sources };
+            rules_held = b.rules first.rules second.rules c.runs_of.ensures.rules_long c.runs_of-2.ensures.rules_long;
             plans_held = b.plans;
           })
           built;

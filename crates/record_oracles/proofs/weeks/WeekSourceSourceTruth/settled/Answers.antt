@@ -6,4 +6,4 @@ use Rattle.record_oracles.proofs.weeks.WeekSourceSourceTruth.settled.Goals as go
 pub returns : goal.returns
 returns c =
     let s = c.args.self.now in
-    settles_between (λ I. distinct (weeks_in I s.first s.terms)) (weeks_mono s.first s.terms) s.wanted c.args.plan.now _ _ _ c.visited-weeks.ensures c.visited-weeks-2.ensures c.reached.ensures
+    settles_between (λ I. distinct (weeks_in I s.first s.terms)) (weeks_mono s.first s.terms) s.wanted c.args.plan.now _ _ _ c.visited_weeks.ensures c.visited_weeks-2.ensures c.reached.ensures

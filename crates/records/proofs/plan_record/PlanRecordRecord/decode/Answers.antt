@@ -8,11 +8,11 @@ use Rattle.records.proofs.plan_record.PlanRecordRecord.decode.Goals as goal
 pub returns-in-Some : goal.returns-in-Some
 returns-in-Some c =
     let bs = c.args.bytes.now in
-    let f = c.in-ok-fields.fields in
-    let a : all_are 255 f.atoms ≡ true = sym c.all-are.ensures ∙ demanded_ok _ _ _ (sym c.demand.ensures ∙ c.in-ok-demand.was) in
+    let f = c.in_ok-fields.fields in
+    let a : all_are 255 f.atoms ≡ true = sym c.all_are.ensures ∙ demanded_ok _ _ _ (sym c.demand.ensures ∙ c.in_ok-demand.was) in
     let none : first_fault (plan_tests f) ≡ None = rw (a, lt-ltb _ _ c.in-Some.ensures.0) in
     let long : length f.atoms ≡ 8 = omega arith in
     record {
-      fault = sym none ∙ tests_are 67 0 plan_tests bs c.read-frame.result c.read-frame.ensures f c.in-ok-fields.was;
-      value = image_is 67 0 plan_tests bs c.read-frame.result c.read-frame.ensures f c.in-ok-fields.was _ _ _ (replicated_at 8 255 f.atoms long a) c.in-Some.ensures.1 c.number-of-label.ensures;
+      fault = sym none ∙ tests_are 67 0 plan_tests bs c.read_frame.result c.read_frame.ensures f c.in_ok-fields.was;
+      value = image_is 67 0 plan_tests bs c.read_frame.result c.read_frame.ensures f c.in_ok-fields.was _ _ _ (replicated_at 8 255 f.atoms long a) c.in-Some.ensures.1 c.number_of-label.ensures;
     }

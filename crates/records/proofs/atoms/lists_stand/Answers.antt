@@ -1,5 +1,0 @@
-use Rattle.fields.proofs.Ascending.{ascending, ascends_back, used-first}
-use Rattle.fields.proofs.atoms.lists_stand.Goals as goal
-
-pub returns : goal.returns
-returns c = record { same = λ xs. (ascending xs, ascends_back xs); first = λ xs a. used-first 0 xs (ascends_back xs a) }
