@@ -1,5 +1,5 @@
 -- Ways to satisfy a rule, taken together one by one. Assumes nothing.
-use Rattle.std.proofs.Common.{◌≡◌, ℕ, ◌+◌, ◌<◌, ◌≤◌, Bool, true, false, cond, not, eqb, ◌⊎◌, List, length, get_or, Some, None, Option, sym, refl, subst, inl, inr, ⊎_elim, arith}
+use Rattle.std.proofs.Common.{◌≡◌, ℕ, ◌+◌, ◌<◌, ◌≤◌, Bool, true, false, cond, eqb, ◌⊎◌, List, length, get_or, Some, None, Option, sym, refl, subst, inl, inr, ⊎_elim, arith}
 use Rattle.std.proofs.lemmas.Bool.{eqb-true, both_ways, cases_lt, not-false}
 use Rattle.semantics.specs.Program.{Interp, Meaning}
 use Rattle.plans.specs.Partial.{Decided, place_at, Within, Opened}

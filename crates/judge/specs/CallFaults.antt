@@ -1,5 +1,4 @@
 -- The faults of a call: layer, number and byte of each. Assumes nothing.
-use Rattle.std.specs.Prelude.{ℕ}
 use Rattle.records.specs.declared.fault.Layer.TheVariants.{Call}
 use Rattle.records.specs.declared.fault.Named.{Named}
 use Rattle.judge.specs.declared.verdict.CallFault.{CallFault}

@@ -1,4 +1,5 @@
 // Judges plans: whether one stands, which rule it breaks, or which atoms it has no ground for.
+#![tactic(auto)]
 
 // What a check answers, and why it is refused.
 pub mod verdict;

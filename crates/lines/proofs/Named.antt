@@ -1,5 +1,5 @@
 -- A set that a check names has few atoms, and its bytes are read as the set. Assumes nothing.
-use Rattle.std.proofs.Common.{◌≡◌, ℕ, zero, suc, ◌+◌, ◌<◌, ◌≤◌, Bool, true, false, cond, List, [], ◌∷◌, ◌++◌, length, get_or, Some, None, Option, unwrap_or, sym, refl, ap, ◌∙◌, subst, arith, MatchOption}
+use Rattle.std.proofs.Common.{◌≡◌, ℕ, zero, suc, ◌<◌, ◌≤◌, Bool, true, false, cond, List, [], ◌∷◌, length, get_or, Some, None, Option, unwrap_or, sym, refl, ap, subst, arith, MatchOption}
 use Rattle.std.proofs.lemmas.List.{length-append, get_or_past}
 use Rattle.semantics.specs.Program.{Interp, Plan, Rule, Meaning, no_rule, atom_limit}
 use Rattle.semantics.specs.Judge.{unfounded}

@@ -1,7 +1,6 @@
 -- What is said of a plan or of a bad file, and the bytes of each line. Assumes nothing.
 use Rattle.std.specs.Prelude.{ℕ, zero, suc, cond, List, [], ◌∷◌, ◌++◌, map, codes, decimal, slice_index_or}
 use Rattle.std.specs.List.{flat_map}
-use Rattle.semantics.specs.Program as P
 use Rattle.semantics.specs.Program.{Interp, Rule, atom_limit, no_rule}
 use Rattle.semantics.specs.Judge as J
 use Rattle.semantics.specs.Check.{Checked, fault, answered}

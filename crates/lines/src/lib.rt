@@ -1,4 +1,5 @@
 // The line that is printed for each plan, and for a bad file.
+#![tactic(auto)]
 
 // What is said of a plan or of a bad file.
 pub mod report;

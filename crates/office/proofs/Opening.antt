@@ -1,5 +1,5 @@
 -- Both files found good, and what is built of them. Assumes nothing.
-use Rattle.std.proofs.Common.{◌≡◌, ℕ, List, IfOk, Some, None, Ok, Err, Result, sym, refl, ap, ◌∙◌, subst, arith}
+use Rattle.std.proofs.Common.{◌≡◌, ℕ, List, IfOk, Some, None, Ok, Err, Result, sym, ap, ◌∙◌, arith}
 use Rattle.lines.specs.declared.report.File.{File}
 use Rattle.lines.specs.declared.report.File.TheVariants.{House, Site}
 use Rattle.office.specs.Bad.{in_file, bad_site, bad_house, bad_office}

@@ -1,5 +1,5 @@
 -- A walk through a file, one record more. Assumes nothing.
-use Rattle.std.proofs.Common.{◌≡◌, ℕ, zero, suc, ◌+◌, ◌-◌, ◌*◌, ◌<◌, ◌≤◌, Bool, true, false, cond, List, length, take, drop, Some, None, Ok, Err, Option, Result, sym, refl, ap, ◌∙◌, arith}
+use Rattle.std.proofs.Common.{◌≡◌, ℕ, zero, suc, ◌+◌, ◌-◌, ◌*◌, ◌<◌, Bool, true, false, cond, List, take, drop, Some, None, Ok, Err, Option, Result, sym, refl, ap, ◌∙◌, arith}
 use Rattle.std.proofs.lemmas.List.{drop-drop}
 use Rattle.sources.specs.Judged.{kind_of}
 use Rattle.sources.specs.declared.kind.Kind.{Kind}
@@ -10,7 +10,6 @@ use Rattle.records.specs.declared.fault.RecordFault.{RecordFault}
 use Rattle.office.specs.declared.file_fault.Cause.{Cause}
 use Rattle.office.specs.declared.file_fault.Cause.TheVariants.{Order}
 use Rattle.office.specs.declared.file_fault.FileFault.TheVariants.{Record}
-use Rattle.office.specs.declared.file_fault.FileFault.{FileFault}
 use Rattle.office.specs.Walk.{Counts, total, in_order, no_room, one_more, stepped, go_on, walked}
 
 module _ (f : File) (b : Counts) where

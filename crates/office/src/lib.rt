@@ -1,4 +1,5 @@
 // An office's two files: house.ret and site.ret.
+#![tactic(auto)]
 
 // How many records of each kind a file has.
 pub mod sections;

@@ -1,12 +1,12 @@
 -- The clauses of a reply and its one definition say the same. Assumes nothing.
-use Rattle.std.proofs.Common.{◌≡◌, ℕ, ◌<◌, ◌≤◌, Bool, true, false, cond, sym, refl, ◌∙◌, subst, ⊎_elim, arith}
+use Rattle.std.proofs.Common.{◌≡◌, ℕ, ◌<◌, ◌≤◌, Bool, true, false, cond, refl, ⊎_elim, arith}
 use Rattle.std.proofs.lemmas.Bool.{cases_lt}
 use Rattle.semantics.specs.Program.{Meaning}
 use Rattle.plans.specs.Partial.{full}
 use Rattle.plans.proofs.Partial.{full_within}
 use Rattle.oracles.specs.declared.oracle.Reply.{Reply}
 use Rattle.oracles.specs.declared.oracle.Reply.TheVariants.{NoSource, Yes, No, Open}
-use Rattle.oracles.specs.Clauses.{Clauses, ClausesFollow, ClausesSuffice}
+use Rattle.oracles.specs.Clauses.{ClausesSuffice}
 
 below : (m : Meaning) (n : ℕ) (r : Reply) → (m.count ≤ n → r ≡ NoSource) → (r ≡ NoSource → ⊥) → n < m.count
 below m n r f ne = ⊎_elim (λ (h : n < m.count). h) (λ (h : m.count ≤ n). absurd (ne (f h))) (cases_lt n m.count)

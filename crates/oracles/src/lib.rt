@@ -1,4 +1,5 @@
 // Oracles: truths of a plan that the body of a rule can cite.
+#![tactic(auto)]
 
 // The trait, and what an oracle replies.
 pub mod oracle;

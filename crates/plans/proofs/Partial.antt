@@ -1,5 +1,5 @@
 -- Partial plans and the interpretations that they leave. Assumes nothing.
-use Rattle.std.proofs.Common.{◌≡◌, ℕ, zero, suc, ◌+◌, ◌<◌, ◌≤◌, Bool, true, false, cond, ◌&&◌, eqb, ltb, ◌⊎◌, sym, refl, ap, ◌∙◌, subst, inl, inr, ⊎_elim, arith}
+use Rattle.std.proofs.Common.{◌≡◌, ℕ, zero, suc, ◌+◌, ◌<◌, ◌≤◌, Bool, true, false, cond, ◌&&◌, eqb, ltb, sym, refl, ap, ◌∙◌, subst, ⊎_elim, arith}
 use mathlib.Core.Path.{fun_ext}
 use Rattle.std.proofs.lemmas.Bool.{ltb-true, ltb-false, lt-ltb, both_ways, cases_Bool, cases_lt, cases_eq, and_parts, cond-true, cond-false, eq-eqb, ne_eqb}
 use Rattle.semantics.specs.Program.{Interp, atom_limit}
@@ -7,7 +7,7 @@ use Rattle.semantics.specs.Check.{size_below}
 use Rattle.plans.specs.declared.partial_plan.Status.{Status}
 use Rattle.plans.specs.declared.partial_plan.Status.TheVariants.{Open, In, Out}
 use Rattle.plans.specs.declared.partial_plan.PartialPlan.{PartialPlan}
-use Rattle.plans.specs.Partial.{status_at, place_at, Admits, Agrees, Decided, is_in, full, Within, Opened, Decides, open_one, open_below}
+use Rattle.plans.specs.Partial.{status_at, place_at, Admits, Decided, is_in, full, Within, Opened, Decides, open_one, open_below}
 
 true_and : (x y : Bool) → x ≡ true → (x && y) ≡ y
 true_and true y e = refl

@@ -1,4 +1,5 @@
 // Sets of atoms, and plans that leave atoms open.
+#![tactic(auto)]
 
 // A set of atoms as thirty-two bytes of plan bits.
 pub mod atom_set;

@@ -1,4 +1,5 @@
 // Oracles over decoded records.
+#![tactic(auto)]
 
 // A source, and when a partial plan settles its truth.
 pub mod source_truth;

@@ -1,4 +1,5 @@
 // Records of forty-eight bytes: faults, fields, the interface of a kind, rules and plans, and runs of any kind.
+#![tactic(auto)]
 
 // Atom lists that ascend.
 pub mod atoms;

@@ -1,4 +1,6 @@
 // Judges the plans of an office: reads house.ret and site.ret, and prints a line for each plan.
+#![tactic(auto)]
+
 use anyhow::anyhow;
 use lines::write_plan_line;
 use office::{Office, OfficeFault, write_bad_file_line};

@@ -1,4 +1,5 @@
 // The rules of an office, numbered from 0.
+#![tactic(auto)]
 
 // A table of up to 256 plain rows.
 pub mod rulebook;

@@ -1,14 +1,14 @@
 -- Each answer of `judge` is given exactly when it is right. Assumes nothing.
 use mathlib.Core.Path.{◌≡◌, refl, sym, ◌∙◌, ap, subst, fun_ext}
-use mathlib.Core.Bool.{Bool, true, false, not, ◌&&◌, ◌||◌, true≢false, false≢true}
+use mathlib.Core.Bool.{Bool, true, false, not, ◌||◌, false≢true}
 use mathlib.Core.List.{List, [], ◌∷◌}
 use mathlib.Core.Option.{Option, none, some}
 use mathlib.Core.Logic.{◌⊎◌, inl, inr}
-use Prim.Native.Nat.{ℕ, zero, suc, ◌+◌, ◌≤◌, ◌<◌}
+use Prim.Native.Nat.{ℕ, zero, suc, ◌+◌, ◌<◌}
 use native.Mathlib.Omega.{arith}
 use native.Mathlib.Decide.{dec_lt}
 use lib.ListN.{length, get_or}
-use Rattle.semantics.specs.Program.{Interp, Plan, atom_limit, Rule, Meaning, any, all, keep, Each, body_true, satisfied, Model, Subset, ◌∖◌, Excused, false_here, false_without, other_head, Unfounded, UnfoundedFree, Earlier, Earliest, LowestBroken, no_rule}
+use Rattle.semantics.specs.Program.{Interp, Plan, atom_limit, Rule, Meaning, any, all, Each, body_true, satisfied, Model, Subset, ◌∖◌, Excused, false_here, false_without, other_head, Unfounded, Earlier, Earliest, LowestBroken, no_rule}
 use Rattle.semantics.specs.Judge.{Verdict, stands, broken, unfounded, judge, seek, first_broken, any_below, excused, unfounded_test}
 use Rattle.semantics.specs.Theorems.{Says, JudgeRight}
 use Rattle.semantics.proofs.Facts.{way, clash, is_false, both, left, right, or_left, or_right, or_ways, each_map, each_all, all_each}

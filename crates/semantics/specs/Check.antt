@@ -1,6 +1,6 @@
 -- What a check answers, refusals included. Assumes nothing.
 use Rattle.std.specs.Prelude.{◌≡◌, refl, Bool, true, false, cond, List, [], ◌∷◌, ℕ, zero, suc, ◌+◌, ◌≤◌, ltb}
-use Rattle.std.proofs.Math.Option.{Option, none, some}
+use Rattle.std.proofs.Math.Option.{none, some}
 use Rattle.std.proofs.Common.{lit≤}
 use Rattle.semantics.specs.Program.{Interp, Plan, Subset, atom_limit, Literal, atom, not_atom, source, not_source, Rule, Meaning, all}
 use Rattle.semantics.specs.Judge.{Verdict, broken, unfounded, judge, first_broken, set_of}

@@ -1,8 +1,8 @@
 -- Twelve plans and their judgements. Assumes nothing.
-use Rattle.std.specs.Prelude.{◌≡◌, refl, Bool, true, false, not, cond, List, [], ◌∷◌, ℕ, zero, suc, ◌+◌, leb}
+use Rattle.std.specs.Prelude.{◌≡◌, Bool, not, cond, List, [], ◌∷◌, ℕ, zero, suc, ◌+◌, leb}
 use Rattle.std.proofs.Common.{ap, lit≤, lit<}
-use Rattle.semantics.specs.Program.{Interp, Local, Rule, Meaning, Literal, atom, not_atom, source, not_source}
-use Rattle.semantics.specs.Judge.{Verdict, stands, broken, unfounded, judge, set_of}
+use Rattle.semantics.specs.Program.{Interp, Local, Rule, Meaning, Literal, atom, source, not_source}
+use Rattle.semantics.specs.Judge.{stands, broken, unfounded, judge, set_of}
 
 -- Source 0 says yes when atom 0 is in, source 1 when it is out, and source 2 when 3 for atom 0 and 4 for atom 1 reach the bound.
 abbrev pub three_truth : ℕ → ℕ → Interp → Bool

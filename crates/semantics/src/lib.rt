@@ -1,4 +1,6 @@
 // The published definitions, and what is proved of them: each function's contract names a theorem.
+#![tactic(auto)]
+
 ghost use Rattle.semantics.specs.Check.{CheckJudges, Crowded, NamedFew};
 ghost use Rattle.semantics.specs.Examples.{Examples};
 ghost use Rattle.semantics.specs.Theorems.{JudgeRight};

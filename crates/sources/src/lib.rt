@@ -1,4 +1,5 @@
 // Sources as records: tables, sums and weeks, and the judging of a record of any kind.
+#![tactic(auto)]
 
 // A record of any kind, judged by its letter.
 pub mod judge;

@@ -1,4 +1,6 @@
 // Runs the test vectors: judges each pair of files of cases.bin as retcheck would.
+#![tactic(auto)]
+
 use anyhow::anyhow;
 use lines::write_plan_line;
 use office::{Office, OfficeFault, write_bad_file_line};

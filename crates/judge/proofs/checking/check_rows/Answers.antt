@@ -1,9 +1,8 @@
-use Rattle.std.proofs.Common.{◌≡◌, ℕ, List, replicate, sym, refl, ap, ◌∙◌, subst, arith}
-use mathlib.Core.Option.{none}
+use Rattle.std.proofs.Common.{◌≡◌, ℕ, replicate, sym, refl, ap, ◌∙◌, subst, arith}
 use Rattle.semantics.specs.Program.{Interp}
 use Rattle.semantics.specs.Judge.{stands, broken, unfounded}
 use Rattle.semantics.specs.Check.{Checked, answered, fault}
-use Rattle.plans.specs.Bits.{marked, bytes_of}
+use Rattle.plans.specs.Bits.{marked}
 use Rattle.plans.specs.Partial.{full, removed}
 use Rattle.rulebook.specs.Rules.{rules_of}
 use Rattle.judge.specs.Outcome.{outcome}

@@ -1,4 +1,4 @@
-use Rattle.std.proofs.Common.{◌≡◌, get_or, None, sym, refl, ap, ◌∙◌}
+use Rattle.std.proofs.Common.{get_or, None, sym, ◌∙◌}
 use Rattle.std.proofs.lemmas.List.{at_drop_all}
 use Rattle.semantics.specs.Program.{all, literal_true}
 use Rattle.rulebook.specs.Rules.{body_of}

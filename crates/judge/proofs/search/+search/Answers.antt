@@ -1,4 +1,4 @@
-use Rattle.std.proofs.Common.{◌≡◌, ℕ, ◌<◌, sym, refl, ◌∙◌, subst}
+use Rattle.std.proofs.Common.{ℕ, ◌<◌, refl, subst}
 use Rattle.plans.specs.declared.partial_plan.Status.TheVariants.{In, Out}
 use Rattle.semantics.specs.Program.{atom_limit}
 use Rattle.plans.specs.Partial.{open_below}

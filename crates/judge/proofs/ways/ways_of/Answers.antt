@@ -1,7 +1,7 @@
-use Rattle.std.proofs.Common.{◌≡◌, ◌+◌, length, sym, refl, ap, ◌∙◌, subst, rules}
+use Rattle.std.proofs.Common.{◌≡◌, ◌+◌, length, sym, ap, ◌∙◌, subst}
 use Rattle.judge.specs.Ways.{Leaves, HeadIn, Meets, Known, ways_and}
 use Rattle.judge.specs.declared.ways.Ways.{Ways}
-use Rattle.judge.proofs.Satisfying.{heads_none, heads_out, heads_open, body_none, body_true, body_unsure, done, by_head, by_body, given_up, several_is}
+use Rattle.judge.proofs.Satisfying.{heads_out, heads_open, body_none, body_true, body_unsure, done, by_head, by_body, given_up, several_is}
 use Rattle.judge.proofs.ways.ways_of.Goals as goal
 use Rattle.judge.proofs.ways.ways_of.Goals.{in-Out, in-Open, in-True, in-Unsure}
 

@@ -1,5 +1,4 @@
-use Rattle.std.proofs.Common.{◌<◌, length, arith, rules}
-use Rattle.lines.specs.Said.{members_below}
+use Rattle.std.proofs.Common.{rules}
 use Rattle.lines.proofs.Members.{members_none, members_same, members_room, atoms_more, count_more}
 use Rattle.lines.proofs.line.write_atoms.Goals as goal
 use Rattle.lines.proofs.line.write_atoms.Goals.{then-contains, else-contains}

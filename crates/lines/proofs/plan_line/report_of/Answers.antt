@@ -7,7 +7,7 @@ use Rattle.plans.specs.Bits.{marked, bytes_of}
 use Rattle.judge.specs.Outcome.{zeros, Told}
 use Rattle.judge.specs.declared.verdict.Verdict.{Verdict}
 use Rattle.rulebook.specs.Rules.{rule_of, rules_of}
-use Rattle.lines.specs.Said.{Said, breaks, circle, said_of, members}
+use Rattle.lines.specs.Said.{breaks, circle, said_of, members}
 use Rattle.lines.proofs.Named.{named_read, named_fits, label_or}
 use Rattle.lines.proofs.plan_line.report_of.Goals as goal
 

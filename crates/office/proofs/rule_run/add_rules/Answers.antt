@@ -1,4 +1,4 @@
-use Rattle.std.proofs.Common.{◌≡◌, ◌+◌, ◌-◌, ◌*◌, ◌/◌, length, vec_items, arith}
+use Rattle.std.proofs.Common.{◌≡◌, ◌+◌, ◌-◌, ◌*◌, length, vec_items, arith}
 use Rattle.office.proofs.Adding.{added_more, added_all}
 use Rattle.office.proofs.rule_run.add_rules.Goals as goal
 

@@ -1,4 +1,4 @@
-use Rattle.std.proofs.Common.{◌≡◌, ℕ, ◌<◌, ◌≢◌, length, get_or, refl, ◌∙◌, arith, length-set, get_or-set_other, get_or-set_same, below_more}
+use Rattle.std.proofs.Common.{◌<◌, ◌≢◌, length, refl, ◌∙◌, arith, length-set, get_or-set_other, get_or-set_same, below_more}
 use Rattle.plans.specs.Partial.{removed}
 use Rattle.plans.proofs.Bits.{bits_top, bytes_all}
 use Rattle.plans.proofs.removal.removed_bytes.Goals as goal

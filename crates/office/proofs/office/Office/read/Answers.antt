@@ -1,6 +1,6 @@
 use Rattle.std.proofs.Common.{◌≡◌, IfOk, Ok, subst}
 use Rattle.lines.specs.declared.report.File.TheVariants.{House, Site}
-use Rattle.office.specs.Held.{Built, OfficeHeld}
+use Rattle.office.specs.Held.{Built}
 use Rattle.office.specs.Sections.{counts_of}
 use Rattle.office.specs.Walk.{Counts, none, file_read}
 use Rattle.office.specs.declared.office.Office.{Office}

@@ -1,4 +1,4 @@
-use Rattle.std.proofs.Common.{◌≡◌, Ok, Err, sym, ap, ◌∙◌}
+use Rattle.std.proofs.Common.{Ok, sym, ap, ◌∙◌}
 use Rattle.sources.specs.Judged.{kind_of}
 use Rattle.office.specs.Sections.{counts_of}
 use Rattle.office.proofs.Walking.{step_taken, step_full}

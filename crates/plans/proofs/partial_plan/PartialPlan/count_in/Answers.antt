@@ -1,4 +1,4 @@
-use Rattle.std.proofs.Common.{◌≡◌, Bool, sym, ap, ◌∙◌, arith}
+use Rattle.std.proofs.Common.{◌≡◌, sym, ap, ◌∙◌, arith}
 use Rattle.plans.specs.declared.partial_plan.Status.{Status}
 use Rattle.plans.specs.Partial.{full, is_in}
 use Rattle.plans.proofs.Partial.{full_place, size_none, size_more}
