@@ -1,3 +1,7 @@
+pub mod Ascending
 pub mod Bodies
+pub mod Judging
+pub mod Rewriting
+pub mod LiteralPlaces
 pub mod Places
 pub mod Runs

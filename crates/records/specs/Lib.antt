@@ -8,6 +8,7 @@ pub mod Plans
 pub mod Rows
 pub mod RunFaults
 pub mod Runs
+pub mod Trips
 pub mod PlansLemmas
 pub mod Bytes
 pub mod FramesLemmas

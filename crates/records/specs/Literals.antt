@@ -1,5 +1,5 @@
 -- The literals of a rule's body, and the two bytes of each.
-use Rattle.std.specs.Prelude.{ℕ, Bool, true, false, cond, ◌&&◌, List, [], ◌∷◌, is_some, Some, None, Option, ◌==◌, nat_lt}
+use Rattle.std.specs.Prelude.{◌≡◌, ℕ, ◌<◌, Bool, true, false, cond, ◌&&◌, List, [], ◌∷◌, is_some, Some, None, Option, ◌==◌, nat_lt, slice_index_or}
 use Rattle.records.specs.declared.literal.Literal.{Literal}
 use Rattle.records.specs.declared.literal.Literal.TheVariants.{Atom, NotAtom, Source, NotSource}
 use Rattle.records.specs.Faults.{all_are}
@@ -49,3 +49,15 @@ abbrev pub places_ok : List (Option Literal) → Bool
 places_ok [] = true
 places_ok (None ∷ ps) = all_unused ps
 places_ok (Some l ∷ ps) = literal_ok l && places_ok ps
+
+-- the same bounds, in words
+abbrev pub Within : Literal → Type 0
+Within (Atom n) = n < 255
+Within (NotAtom n) = n < 255
+Within (Source n) = n < 64
+Within (NotSource n) = n < 64
+
+-- literals within their bounds, and none after an unused place
+pub record LiteralsFirst (ps : List (Option Literal)) : Type 0 where
+  pub within : (k : ℕ) (l : Literal) → slice_index_or ps k None ≡ Some l → Within l
+  pub before : (i j : ℕ) (l : Literal) → i < j → slice_index_or ps j None ≡ Some l → is_some (slice_index_or ps i None) ≡ true

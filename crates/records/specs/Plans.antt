@@ -1,5 +1,6 @@
 -- Plan records: letter C, form 0, no atom list, the marks and a label.
-use Rattle.std.specs.Prelude.{ℕ, Bool, List, [], ◌∷◌, replicate, Option, nat_lt, slice_index}
+use Rattle.std.specs.Prelude.{◌≡◌, ℕ, ◌^◌, ◌<◌, Bool, false, List, [], ◌∷◌, length, replicate, Option, nat_lt, slice_index}
+use Rattle.plans.specs.Bits.{bit_in}
 use Rattle.records.specs.declared.fault.Flaw.{Flaw}
 use Rattle.records.specs.declared.fault.Flaw.TheVariants.{Atoms, Body}
 use Rattle.records.specs.declared.fault.RecordFault.{RecordFault}
@@ -21,3 +22,12 @@ plan_tests f = (all_are 255 f.atoms, Atoms) ∷ (nat_lt (slice_index f.body 31) 
 
 abbrev pub plan_fault : List ℕ → Option RecordFault
 plan_fault = fault_by 67 0 plan_tests
+
+-- what every plan is: thirty-two bytes of marks, and 255, which is no atom, is not marked
+pub record PlanAllowed (p : Plan) : Type 0 where
+  pub places : length p.marks.bytes ≡ 32
+  pub atoms : bit_in p.marks.bytes 255 ≡ false
+  pub label : p.label < 2 ^ 32
+
+abbrev pub PlansAllowed : Type 0
+PlansAllowed = (p : Plan) → PlanAllowed p

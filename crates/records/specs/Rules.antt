@@ -1,5 +1,5 @@
 -- Rule records: letter R, form 0, a head, a body of literals and a label.
-use Rattle.std.specs.Prelude.{◌≡◌, ℕ, Bool, true, not, ◌&&◌, List, [], ◌∷◌, Option, ◌==◌, slice_index}
+use Rattle.std.specs.Prelude.{◌≡◌, ◌≢◌, ℕ, ◌^◌, ◌<◌, Bool, true, not, ◌&&◌, ◌⊎◌, List, [], ◌∷◌, length, is_some, None, Option, ◌==◌, slice_index, slice_index_or}
 use Rattle.std.specs.List.{flat_map}
 use Rattle.records.specs.declared.fault.Flaw.{Flaw}
 use Rattle.records.specs.declared.fault.Flaw.TheVariants.{Atoms, Body, Empty}
@@ -8,8 +8,8 @@ use Rattle.records.specs.declared.fields.Fields.{Fields}
 use Rattle.records.specs.declared.literal.Literal.{Literal}
 use Rattle.records.specs.declared.rule.Rule.{Rule}
 use Rattle.records.specs.Numbers.{le4}
-use Rattle.records.specs.Atoms.{ascends}
-use Rattle.records.specs.Literals.{pair_of, body_rule, places_ok}
+use Rattle.records.specs.Atoms.{ascends, Ascending}
+use Rattle.records.specs.Literals.{pair_of, body_rule, places_ok, LiteralsFirst}
 use Rattle.records.specs.Frames.{frame, fault_by}
 
 abbrev pub rule_fields : List ℕ → List (Option Literal) → ℕ → Fields
@@ -32,3 +32,19 @@ rule_fault = fault_by 82 0 rule_tests
 -- every rule's literals are within their bounds, its unused places last
 abbrev pub BodiesStand : Type 0
 BodiesStand = (r : Rule) → places_ok r.body ≡ true
+
+-- the bodies whose bytes pass the test are literals, and then unused places
+abbrev pub LiteralsStand : Type 0
+LiteralsStand = (ps : List (Option Literal)) → (body_rule (flat_map pair_of ps) ≡ true → LiteralsFirst ps) × (LiteralsFirst ps → body_rule (flat_map pair_of ps) ≡ true)
+
+-- what every rule is: atoms that ascend, literals and then unused places, and something in one of the two
+pub record RuleAllowed (r : Rule) : Type 0 where
+  pub places : length r.head ≡ 8
+  pub head : Ascending r.head
+  pub sixteen : length r.body ≡ 16
+  pub body : LiteralsFirst r.body
+  pub filled : (slice_index r.head 0 ≢ 255) ⊎ (is_some (slice_index_or r.body 0 None) ≡ true)
+  pub label : r.label < 2 ^ 32
+
+abbrev pub RulesAllowed : Type 0
+RulesAllowed = (r : Rule) → RuleAllowed r

@@ -1,5 +1,5 @@
 -- Runs of records: what a reader and a writer of any kind answer, and the two round trips.
-use Rattle.std.specs.Prelude.{◌≡◌, ℕ, zero, suc, ◌+◌, ◌*◌, ◌/◌, ◌%◌, ◌<◌, Bool, true, false, cond, not, ◌&&◌, ◌||◌, List, length, take, drop, IfOk, Some, None, Ok, Err, vec_items, Option, Result, Vec, ◌==◌, nat_lt}
+use Rattle.std.specs.Prelude.{◌≡◌, ℕ, zero, suc, ◌+◌, ◌*◌, ◌/◌, ◌%◌, ◌<◌, ◌≤◌, Bool, true, false, cond, not, ◌&&◌, ◌||◌, List, length, take, drop, IfOk, Some, None, Ok, Err, vec_items, Option, Result, Vec, ◌==◌, nat_lt}
 use Rattle.records.specs.Faults.{fault_in}
 use Rattle.std.specs.List.{flat_map}
 use Rattle.std.specs.declared.alloc.Global.{Global}
@@ -63,3 +63,18 @@ count_of fault bs = cond (bad_run bs) (Err Run) (counted fault (length bs / 48) 
 -- one answer, and no other, is a decoder's
 abbrev pub Decided : {A : Type 0} → (A → List ℕ) → (List ℕ → Option RecordFault) → Type 0
 Decided {A} image fault = (bs : List ℕ) (r s : Result A RecordFault) → fault_in r ≡ fault bs → IfOk r (λ v. image v ≡ bs) → fault_in s ≡ fault bs → IfOk s (λ v. image v ≡ bs) → r ≡ s
+
+-- count whole records, 512 at most
+abbrev pub Whole : List ℕ → ℕ → Type 0
+Whole bs n = (length bs ≡ 48 * n) × (n ≤ 512)
+
+-- what a run's judgement says, in words
+abbrev pub RunIs : (List ℕ → Option RecordFault) → List ℕ → Result ℕ RunFault → Type 0
+RunIs fault bs (Ok n) = (Whole bs n) × ((j : ℕ) → j < n → fault (part j bs) ≡ None)
+RunIs fault bs (Err Memory) = ⊥
+RunIs fault bs (Err Run) = (n : ℕ) → Whole bs n → ⊥
+RunIs fault bs (Err (Record p)) = FirstFault fault bs p
+
+-- a run is judged exactly so: accepted when every record is, else its length or its first faulty record is named
+abbrev pub RunsJudged : Type 0
+RunsJudged = (fault : List ℕ → Option RecordFault) (bs : List ℕ) (r : Result ℕ RunFault) → (count_of fault bs ≡ r → RunIs fault bs r) × (RunIs fault bs r → count_of fault bs ≡ r)

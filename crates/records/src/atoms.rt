@@ -1,6 +1,6 @@
 // Atom lists: a rule's head, or a source's inputs. A place that is not used holds 255.
 ghost use Rattle.std.specs.Prelude.{◌≡◌, ◌≤◌, length};
-ghost use Rattle.records.specs.Atoms.{ascends, used};
+ghost use Rattle.records.specs.Atoms.{ascends, used, ListsStand, UsedFirst};
 
 // Whether the atoms ascend, the unused places last.
 pub fn atoms_ascend(list: &[u8]) -> bool
@@ -28,4 +28,12 @@ pub fn used_places(list: &[u8]) -> usize
         }
     }
     count
+}
+
+// What the test of a list says of its places.
+pub fn lists_stand() -> u8
+    ensures same { ListsStand }
+    ensures first { UsedFirst }
+{
+    0
 }

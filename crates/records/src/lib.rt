@@ -23,16 +23,22 @@ pub mod row;
 pub mod rule;
 // The kind of rules.
 pub mod rule_record;
+// Both round trips.
+pub mod round_trip;
 // One reader and one writer for the runs of every kind.
 pub mod run;
 
+pub use atoms::lists_stand;
 pub use fault::{Flaw, Layer, Named, RecordFault};
 pub use literal::Literal;
 pub use plan::Plan;
-pub use plan_record::PlanRecord;
+pub use plan_record::{PlanRecord, plans_allowed};
 pub use record::Record;
+pub use round_trip::{reread, rewrite, rewrite_run};
 pub use row::RuleRow;
 pub use rule::Rule;
-pub use rule_record::{RuleRecord, bodies_stand};
-pub use run::{check_run, decoding_decided, read_back, read_run, runs_stand, write_run};
+pub use rule_record::{RuleRecord, bodies_stand, literals_stand, rules_allowed};
+pub use run::{
+    check_run, decoding_decided, read_back, read_run, runs_judged, runs_stand, write_run,
+};
 pub use run_fault::{Placed, RunFault};

@@ -1,5 +1,5 @@
 // The kind of plans.
-ghost use Rattle.records.specs.Plans.{plan_image, plan_fault};
+ghost use Rattle.records.specs.Plans.{plan_image, plan_fault, PlansAllowed};
 ghost use Rattle.records.specs.PlansLemmas.{plan_size, plan_clean, plan_single};
 ghost use Rattle.std.proofs.Common.{rules};
 
@@ -58,4 +58,11 @@ impl Record for PlanRecord {
             },
         )
     }
+}
+
+// What every plan is, said of its marks.
+pub fn plans_allowed() -> u8
+    ensures { PlansAllowed }
+{
+    0
 }

@@ -1,7 +1,7 @@
 // The kind of rules.
 ghost use Rattle.std.specs.Prelude.{◌≡◌};
 ghost use Rattle.records.specs.Faults.{first_fault, unless};
-ghost use Rattle.records.specs.Rules.{rule_fields, rule_image, rule_tests, rule_fault, BodiesStand};
+ghost use Rattle.records.specs.Rules.{rule_fields, rule_image, rule_tests, rule_fault, BodiesStand, LiteralsStand, RulesAllowed};
 ghost use Rattle.records.specs.RulesLemmas.{rule_size, rule_clean, rule_single};
 ghost use Rattle.std.proofs.Common.{rules};
 
@@ -77,6 +77,20 @@ impl Record for RuleRecord {
 // What the bytes of a rule's body allow, said of its literals.
 pub fn bodies_stand() -> u8
     ensures { BodiesStand }
+{
+    0
+}
+
+// What the bytes of a rule's body allow, said of its literals.
+pub fn literals_stand() -> u8
+    ensures { LiteralsStand }
+{
+    0
+}
+
+// What every rule is, said of its atoms and its literals.
+pub fn rules_allowed() -> u8
+    ensures { RulesAllowed }
 {
     0
 }

@@ -2,7 +2,7 @@
 ghost use Rattle.std.specs.Prelude.{◌≡◌, length, if◌then◌else◌, Ok, Err};
 ghost use Rattle.std.specs.List.{flat_map};
 ghost use Rattle.records.specs.declared.run_fault.RunFault.TheVariants.{Run};
-ghost use Rattle.records.specs.Runs.{ReadRun, RunsStand, ReadBack, Decided, count_of, place_fits};
+ghost use Rattle.records.specs.Runs.{ReadRun, RunsJudged, RunsStand, ReadBack, Decided, count_of, place_fits};
 
 use crate::record::Record;
 use crate::run_fault::{RunFault, at_place};
@@ -82,6 +82,13 @@ where
 // The clauses of `decode` leave it one answer.
 pub fn decoding_decided<K: Record>() -> u8
     ensures { Decided K.image K.fault }
+{
+    0
+}
+
+// What the judgement of a run says, in words.
+pub fn runs_judged() -> u8
+    ensures { RunsJudged }
 {
     0
 }

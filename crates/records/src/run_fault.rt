@@ -50,8 +50,8 @@ impl RunFault {
 impl From<Placed> for RunFault {
     ghost from_gives = { λ p r. r ≡ Record p };
 
-    fn from(p: Placed) -> RunFault {
-        RunFault::Record(p)
+    fn from(placed: Placed) -> RunFault {
+        RunFault::Record(placed)
     }
 }
 
@@ -66,8 +66,8 @@ impl From<AllocError> for RunFault {
 impl<T: Drop> From<AllocFailed<T>> for RunFault {
     ghost from_gives = { λ _ r. r ≡ Memory };
 
-    fn from(_e: AllocFailed<T>) -> RunFault {
-        RunFault::Memory
+    fn from(_refused: AllocFailed<T>) -> RunFault {
+        Self::Memory
     }
 }
 

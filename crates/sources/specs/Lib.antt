@@ -1,4 +1,5 @@
 pub mod Spare
+pub mod Terms
 pub mod Tables
 pub mod Sums
 pub mod Weeks

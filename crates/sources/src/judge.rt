@@ -6,6 +6,7 @@ ghost use Rattle.sources.specs.Judged.{form_kind, kind_of};
 
 use crate::kind::Kind;
 use crate::source::Source;
+use crate::source_record::SourceRecord;
 use records::fault::demand;
 use records::{Flaw, PlanRecord, Record, RecordFault, RuleRecord};
 
@@ -34,7 +35,7 @@ fn form_kind(source: &Source) -> Kind
 fn source_kind(bytes: &[u8]) -> Result<Kind, RecordFault>
     ensures { result ≡ unless (source_fault bytes.now) (form_kind (slice_index bytes.now 1)) }
 {
-    match <crate::source_record::SourceRecord as Record>::decode(bytes) {
+    match SourceRecord::decode(bytes) {
         Ok(source) => Ok(form_kind(&source)),
         Err(fault) => Err(fault),
     }

@@ -1,6 +1,8 @@
 // Sources as records: tables, sums and weeks, and the judging of a record of any kind.
 #![tactic(auto)]
 
+// What every source is.
+pub mod allowed;
 // A record of any kind, judged by its letter.
 pub mod judge;
 // The kinds of records.
@@ -26,10 +28,12 @@ pub mod week_record;
 // Inputs with days, and how many weeks are wanted.
 pub mod week_source;
 
+pub use allowed::{sums_allowed, tables_allowed, weeks_allowed};
 pub use judge::check_record;
 pub use kind::Kind;
 pub use source::Source;
 pub use source_record::SourceRecord;
+pub use spare::spares_stand;
 pub use sum_record::SumRecord;
 pub use sum_source::{SumSource, Weighted};
 pub use table_record::TableRecord;

@@ -8,6 +8,9 @@ ghost use Rattle.sources.specs.Sources.{source_image, source_fault};
 ghost use Rattle.sources.specs.SourcesLemmas.{source_size, source_lettered, source_clean, source_single};
 
 use crate::source::Source;
+use crate::sum_record::SumRecord;
+use crate::table_record::TableRecord;
+use crate::week_record::WeekRecord;
 use records::fault::demand;
 use records::{Flaw, Record, RecordFault};
 
@@ -17,7 +20,7 @@ fn read_table(bytes: &[u8]) -> Result<Source, RecordFault>
     ensures fault { fault_in result ≡ table_fault bytes.now }
     ensures value { IfOk result (λ v. source_image v ≡ bytes.now) }
 {
-    match <crate::table_record::TableRecord as Record>::decode(bytes) {
+    match TableRecord::decode(bytes) {
         Ok(source) => Ok(Source::Table(source)),
         Err(fault) => Err(fault),
     }
@@ -27,7 +30,7 @@ fn read_sum(bytes: &[u8]) -> Result<Source, RecordFault>
     ensures fault { fault_in result ≡ sum_fault bytes.now }
     ensures value { IfOk result (λ v. source_image v ≡ bytes.now) }
 {
-    match <crate::sum_record::SumRecord as Record>::decode(bytes) {
+    match SumRecord::decode(bytes) {
         Ok(source) => Ok(Source::Sum(source)),
         Err(fault) => Err(fault),
     }
@@ -37,7 +40,7 @@ fn read_week(bytes: &[u8]) -> Result<Source, RecordFault>
     ensures fault { fault_in result ≡ week_fault bytes.now }
     ensures value { IfOk result (λ v. source_image v ≡ bytes.now) }
 {
-    match <crate::week_record::WeekRecord as Record>::decode(bytes) {
+    match WeekRecord::decode(bytes) {
         Ok(source) => Ok(Source::Week(source)),
         Err(fault) => Err(fault),
     }
@@ -85,13 +88,9 @@ impl Record for SourceRecord {
 
     fn encode(value: &Source, place: &mut [u8]) -> Result<(), RecordFault> {
         match value {
-            Source::Table(source) => <crate::table_record::TableRecord as Record>::encode(
-                source, place,
-            ),
-            Source::Sum(source) => <crate::sum_record::SumRecord as Record>::encode(source, place),
-            Source::Week(source) => <crate::week_record::WeekRecord as Record>::encode(
-                source, place,
-            ),
+            Source::Table(source) => TableRecord::encode(source, place),
+            Source::Sum(source) => SumRecord::encode(source, place),
+            Source::Week(source) => WeekRecord::encode(source, place),
         }
     }
 }

@@ -1,6 +1,6 @@
 // What the inputs leave unused in a source's body is 0.
-ghost use Rattle.std.specs.Prelude.{◌≡◌, ◌-◌};
-ghost use Rattle.sources.specs.Spare.{clear_from, spare_bits, spare_numbers};
+ghost use Rattle.std.specs.Prelude.{◌≡◌, ℕ, ◌-◌, List};
+ghost use Rattle.sources.specs.Spare.{clear_from, spare_bits, spare_numbers, SparesStand};
 
 use plans::bit_in;
 use records::atoms::used_places;
@@ -32,4 +32,11 @@ pub fn numbers_keep(inputs: &[u8; 8], bytes: &[u8; 32]) -> bool
 {
     let start = 4 * used_places(inputs);
     all_are(&bytes[start..32], 0)
+}
+
+// What the two tests say, in words.
+pub fn spares_stand() -> u8
+    ensures { (atoms bs : List ℕ) → SparesStand atoms bs }
+{
+    0
 }
