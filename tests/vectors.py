@@ -4,7 +4,7 @@
 #   crates/vectors/data/cases.bin  for each case the lengths of house.ret and site.ret, four bytes each,
 #                                  lowest first, and then the bytes of both files
 #   crates/vectors/stdout          for each case the line `case N`, from 1, and then what retcheck prints
-# Every run writes the same. `rt check vectors` holds the crates to these answers.
+# Every run writes the same. `rt ci vectors` holds the crates to these answers.
 import random
 import sys
 from itertools import product

@@ -1,5 +1,5 @@
 // A row of a table, and the tests of a whole table.
-use records::{Layer, Named, Record, RecordFault};
+use records::{Layer, Named, Record, RecordFault, reread, rewrite};
 use std::fmt;
 use std::fmt::{Display, Formatter, Write};
 use std::process::Abort;
@@ -81,13 +81,39 @@ fn check_misfit<K: Record>(
     Ok(())
 }
 
+// Both round trips in one call each.
+fn check_trips<K: Record>(
+    rt: &impl Abort,
+    label: &Label<'_>,
+    value: &K::Decoded,
+    bytes: &[u8],
+) -> Result<(), Fail>
+where
+    K::Decoded: Drop,
+{
+    let mut place = [0xAA; 48];
+    assert!(rt; rewrite::<K>(bytes, &mut place).is_ok(), "{label}");
+    assert!(rt; &place[..] == bytes, "{label}");
+    place = [0xAA; 48];
+    match reread::<K>(value) {
+        Ok(same) => assert!(rt; K::encode(&same, &mut place).is_ok(), "{label}"),
+        Err(_) => return Err(Fail::new(format_args!("{label}: not reread"))),
+    }
+    assert!(rt; &place[..] == bytes, "{label}");
+    Ok(())
+}
+
 // What is read is written again as the same bytes.
 fn check_written<K: Record>(
     rt: &impl Abort,
     label: &Label<'_>,
     value: &K::Decoded,
     bytes: &[u8],
-) -> Result<(), Fail> {
+) -> Result<(), Fail>
+where
+    K::Decoded: Drop,
+{
+    check_trips::<K>(rt, label, value, bytes)?;
     let mut place = [0xAA; 48];
     assert!(rt; K::encode(value, &mut place).is_ok(), "{label}");
     assert!(rt; &place[..] == bytes, "{label}");

@@ -1,6 +1,7 @@
 // The runs that are tested of every kind.
 use records::{
-    Layer, Named, PlanRecord, Record, RuleRecord, RunFault, check_run, read_run, write_run,
+    Layer, Named, PlanRecord, Record, RuleRecord, RunFault, check_run, read_back, read_run,
+    rewrite_run, write_run,
 };
 use sources::SourceRecord;
 use std::alloc::Global;
@@ -70,6 +71,26 @@ where
     }
 }
 
+// Both round trips in one call each.
+fn check_trips<K: Record>(
+    rt: &impl Abort,
+    heap: Global,
+    name: &str,
+    values: &[K::Decoded],
+    run: &[u8],
+) -> Result<(), Fail>
+where
+    K::Decoded: Drop,
+{
+    let mut place = vec![in heap; 0xAA; run.len()]?;
+    rewrite_run::<K>(heap, run, place.as_mut_slice())?;
+    assert!(rt; place.as_slice() == run, "{name}");
+    let same = read_back::<K>(heap, values, place.as_mut_slice())?;
+    assert_eq!(rt; same.len(), values.len(), "{name}");
+    assert!(rt; place.as_slice() == run, "{name}");
+    Ok(())
+}
+
 // What is read is written again as the same bytes.
 fn check_kept<K: Record>(
     rt: &impl Abort,
@@ -87,7 +108,7 @@ where
     let mut place = vec![in heap; 0xAA; run.len()]?;
     write_run::<K>(values.as_slice(), place.as_mut_slice())?;
     assert!(rt; place.as_slice() == run, "{name}");
-    Ok(())
+    check_trips::<K>(rt, heap, name, values.as_slice(), run)
 }
 
 fn join(heap: Global, records: &[&[u8; 48]]) -> Result<Vec<u8>, Fail> {
