@@ -67,11 +67,7 @@ def main():
         theirs = set()
         for m in outside.finditer(text):
             theirs |= {w.strip().split(" as ")[0] for w in m.group(2).split(",")}
-        lines = []
-        for line in text.split("\n"):
-            code, note = line, ""
-            lines.append(TOKEN.sub(lambda m: respelled(m.group(0)) if m.group(0) in own and m.group(0) not in theirs else m.group(0), code) + note)
-        new = "\n".join(lines)
+        new = TOKEN.sub(lambda m: respelled(m.group(0)) if m.group(0) in own and m.group(0) not in theirs else m.group(0), text)
         if new != text:
             with open(path, "w", encoding="utf-8") as f:
                 f.write(new)

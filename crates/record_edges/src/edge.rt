@@ -1,8 +1,7 @@
 // A row of a table, and the tests of a whole table.
-use records::{Layer, Named, Record, RecordFault, reread, rewrite};
+use records::{Layer, Record, RecordFault, reread, rewrite};
 use std::fmt;
 use std::fmt::{Display, Formatter, Write};
-use std::process::Abort;
 use std::test::Fail;
 
 // The number of a record's fault, and the byte that it names.
@@ -41,118 +40,95 @@ impl Display for Label<'_> {
     }
 }
 
-pub fn changed(rt: &impl Abort, label: &Label<'_>, base: &[u8; 48], edge: &Edge) -> [u8; 48] {
+// A check that fails is named by its label.
+pub fn check(holds: bool, label: &Label<'_>) -> Result<(), Fail> {
+    if holds {
+        Ok(())
+    } else {
+        Err(Fail::new(format_args!("{label}")))
+    }
+}
+
+pub fn changed(label: &Label<'_>, base: &[u8; 48], edge: &Edge) -> Result<[u8; 48], Fail> {
     let Edge(at, bytes, _) = *edge;
     let mut record = *base;
-    assert!(rt; at <= 48 && bytes.len() <= 48 - at, "{label}");
+    if at > 48 || bytes.len() > 48 - at {
+        return Err(Fail::new(format_args!("{label}: does not fit")));
+    }
     record[at..at + bytes.len()].copy_from_slice(bytes);
-    record
+    Ok(record)
 }
 
-pub fn check_named(rt: &impl Abort, label: &Label<'_>, named: Named, layer: Layer, want: Want) {
-    assert!(rt; named.layer == layer, "{label}");
-    assert_eq!(rt; Some((named.number, named.byte)), want, "{label}");
-}
-
-pub fn check_fault(
-    rt: &impl Abort,
-    label: &Label<'_>,
-    fault: RecordFault,
-    want: Want,
-) -> Result<(), Fail> {
-    check_named(rt, label, fault.named(), Layer::Record, want);
-    Ok(())
+pub fn check_fault(label: &Label<'_>, fault: RecordFault, want: Want) -> Result<(), Fail> {
+    let named = fault.named();
+    check(named.layer == Layer::Record, label)?;
+    check(Some((named.number, named.byte)) == want, label)
 }
 
 // A place of another length is refused, and keeps its bytes.
-fn check_misfit<K: Record>(
-    rt: &impl Abort,
-    label: &Label<'_>,
-    value: &K::Decoded,
-    len: usize,
-) -> Result<(), Fail> {
+fn check_misfit<K: Record>(label: &Label<'_>, value: &K::Decoded, len: usize) -> Result<(), Fail> {
     let mut place = [0xAA; 49];
-    assert!(rt; len <= 49, "{label}");
+    if len > 49 {
+        return Err(Fail::new(format_args!("{label}: too long")));
+    }
     match K::encode(value, &mut place[0..len]) {
         Ok(()) => return Err(Fail::new(format_args!("{label}: accepted"))),
-        Err(fault) => check_fault(rt, label, fault, SIZE)?,
+        Err(fault) => check_fault(label, fault, SIZE)?,
     }
-    assert!(rt; place == [0xAA; 49], "{label}");
-    Ok(())
+    check(place == [0xAA; 49], label)
 }
 
 // Both round trips in one call each.
-fn check_trips<K: Record>(
-    rt: &impl Abort,
-    label: &Label<'_>,
-    value: &K::Decoded,
-    bytes: &[u8],
-) -> Result<(), Fail>
+fn check_trips<K: Record>(label: &Label<'_>, value: &K::Decoded, bytes: &[u8]) -> Result<(), Fail>
 where
     K::Decoded: Drop,
 {
     let mut place = [0xAA; 48];
-    assert!(rt; rewrite::<K>(bytes, &mut place).is_ok(), "{label}");
-    assert!(rt; &place[..] == bytes, "{label}");
+    check(rewrite::<K>(bytes, &mut place).is_ok(), label)?;
+    check(&place[..] == bytes, label)?;
     place = [0xAA; 48];
     match reread::<K>(value) {
-        Ok(same) => assert!(rt; K::encode(&same, &mut place).is_ok(), "{label}"),
+        Ok(same) => check(K::encode(&same, &mut place).is_ok(), label)?,
         Err(_) => return Err(Fail::new(format_args!("{label}: not reread"))),
     }
-    assert!(rt; &place[..] == bytes, "{label}");
-    Ok(())
+    check(&place[..] == bytes, label)
 }
 
 // What is read is written again as the same bytes.
-fn check_written<K: Record>(
-    rt: &impl Abort,
-    label: &Label<'_>,
-    value: &K::Decoded,
-    bytes: &[u8],
-) -> Result<(), Fail>
+fn check_written<K: Record>(label: &Label<'_>, value: &K::Decoded, bytes: &[u8]) -> Result<(), Fail>
 where
     K::Decoded: Drop,
 {
-    check_trips::<K>(rt, label, value, bytes)?;
+    check_trips::<K>(label, value, bytes)?;
     let mut place = [0xAA; 48];
-    assert!(rt; K::encode(value, &mut place).is_ok(), "{label}");
-    assert!(rt; &place[..] == bytes, "{label}");
-    check_misfit::<K>(rt, label, value, 0)?;
-    check_misfit::<K>(rt, label, value, 47)?;
-    check_misfit::<K>(rt, label, value, 49)
+    check(K::encode(value, &mut place).is_ok(), label)?;
+    check(&place[..] == bytes, label)?;
+    check_misfit::<K>(label, value, 0)?;
+    check_misfit::<K>(label, value, 47)?;
+    check_misfit::<K>(label, value, 49)
 }
 
-fn check_read<K: Record>(
-    rt: &impl Abort,
-    label: &Label<'_>,
-    bytes: &[u8],
-    want: Want,
-) -> Result<(), Fail>
+fn check_read<K: Record>(label: &Label<'_>, bytes: &[u8], want: Want) -> Result<(), Fail>
 where
     K::Decoded: Drop,
 {
     match K::decode(bytes) {
         Ok(value) => {
-            assert_eq!(rt; FINE, want, "{label}");
-            check_written::<K>(rt, label, &value, bytes)
+            check(FINE == want, label)?;
+            check_written::<K>(label, &value, bytes)
         }
-        Err(fault) => check_fault(rt, label, fault, want),
+        Err(fault) => check_fault(label, fault, want),
     }
 }
 
-pub fn check_edges<K: Record>(
-    rt: &impl Abort,
-    table: &str,
-    base: &[u8; 48],
-    edges: &[Edge],
-) -> Result<(), Fail>
+pub fn check_edges<K: Record>(table: &str, base: &[u8; 48], edges: &[Edge]) -> Result<(), Fail>
 where
     K::Decoded: Drop,
 {
     for row in 0..edges.len() {
         let label = Label(table, "row", row);
-        let record = changed(rt, &label, base, &edges[row]);
-        check_read::<K>(rt, &label, &record, edges[row].2)?;
+        let record = changed(&label, base, &edges[row])?;
+        check_read::<K>(&label, &record, edges[row].2)?;
     }
     Ok(())
 }
@@ -194,13 +170,13 @@ pub const FRAME_EDGES: [Edge; 22] = [
 ];
 
 // What every kind has: its frame, and records of forty-eight bytes.
-pub fn check_frame<K: Record>(rt: &impl Abort, table: &str, base: &[u8; 48]) -> Result<(), Fail>
+pub fn check_frame<K: Record>(table: &str, base: &[u8; 48]) -> Result<(), Fail>
 where
     K::Decoded: Drop,
 {
-    check_edges::<K>(rt, table, base, &FRAME_EDGES)?;
-    check_read::<K>(rt, &Label(table, "bytes", 0), &[], SIZE)?;
-    check_read::<K>(rt, &Label(table, "zeros", 47), &[0; 47], SIZE)?;
-    check_read::<K>(rt, &Label(table, "bytes", 47), &base[0..47], SIZE)?;
-    check_read::<K>(rt, &Label(table, "bytes", 49), &one_more(base), SIZE)
+    check_edges::<K>(table, base, &FRAME_EDGES)?;
+    check_read::<K>(&Label(table, "bytes", 0), &[], SIZE)?;
+    check_read::<K>(&Label(table, "zeros", 47), &[0; 47], SIZE)?;
+    check_read::<K>(&Label(table, "bytes", 47), &base[0..47], SIZE)?;
+    check_read::<K>(&Label(table, "bytes", 49), &one_more(base), SIZE)
 }

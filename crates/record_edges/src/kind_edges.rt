@@ -2,7 +2,6 @@
 use crate::edge::*;
 use crate::{plan_edges, rule_edges, sum_edges, table_edges, week_edges};
 use sources::{Kind, check_record};
-use std::process::Abort;
 use std::test::Fail;
 
 // The rule's bytes as a source have no form, and as a plan they list an atom.
@@ -20,102 +19,47 @@ const PLAN_AS_RULE: [Edge; 2] = [Edge(0, b"R", FINE), Edge(0, b"R\x01", FORM)];
 // The table's bytes as a sum have the weight 2.
 const TABLE_AS_SUM: [Edge; 1] = [Edge(1, b"W", FINE)];
 
-fn check_kind(
-    rt: &impl Abort,
-    label: &Label<'_>,
-    bytes: &[u8],
-    kind: Kind,
-    want: Want,
-) -> Result<(), Fail> {
+fn check_kind(label: &Label<'_>, bytes: &[u8], kind: Kind, want: Want) -> Result<(), Fail> {
     match check_record(bytes) {
         Ok(found) => {
-            assert_eq!(rt; FINE, want, "{label}");
-            assert_eq!(rt; found, kind, "{label}");
-            Ok(())
+            check(FINE == want, label)?;
+            check(found == kind, label)
         }
-        Err(fault) => check_fault(rt, label, fault, want),
+        Err(fault) => check_fault(label, fault, want),
     }
 }
 
 // A record that is accepted is of the kind.
-fn check_kinds(
-    rt: &impl Abort,
-    table: &str,
-    base: &[u8; 48],
-    edges: &[Edge],
-    kind: Kind,
-) -> Result<(), Fail> {
+fn check_kinds(table: &str, base: &[u8; 48], edges: &[Edge], kind: Kind) -> Result<(), Fail> {
     for row in 0..edges.len() {
         let label = Label(table, "row", row);
-        let record = changed(rt, &label, base, &edges[row]);
-        check_kind(rt, &label, &record, kind, edges[row].2)?;
+        let record = changed(&label, base, &edges[row])?;
+        check_kind(&label, &record, kind, edges[row].2)?;
     }
     Ok(())
 }
 
 #[test]
-fn edges(rt: HostRuntime) -> Result<(), Fail> {
-    check_kinds(&rt, "letters", rule_edges::BASE, &RULE_LETTERS, Kind::Rule)?;
-    check_kinds(
-        &rt,
-        "plan as rule",
-        plan_edges::BASE,
-        &PLAN_AS_RULE,
-        Kind::Rule,
-    )?;
-    check_kinds(
-        &rt,
-        "table as sum",
-        table_edges::BASE,
-        &TABLE_AS_SUM,
-        Kind::Sum,
-    )?;
-    check_kinds(
-        &rt,
-        "rule",
-        rule_edges::BASE,
-        &rule_edges::EDGES,
-        Kind::Rule,
-    )?;
-    check_kinds(
-        &rt,
-        "plan",
-        plan_edges::BASE,
-        &plan_edges::EDGES,
-        Kind::Plan,
-    )?;
-    check_kinds(
-        &rt,
-        "table",
-        table_edges::BASE,
-        &table_edges::EDGES,
-        Kind::Table,
-    )?;
-    check_kinds(
-        &rt,
-        "table, frame",
-        table_edges::BASE,
-        &FRAME_EDGES,
-        Kind::Table,
-    )?;
-    check_kinds(&rt, "sum", sum_edges::BASE, &sum_edges::EDGES, Kind::Sum)?;
-    check_kinds(
-        &rt,
-        "week",
-        week_edges::BASE,
-        &week_edges::EDGES,
-        Kind::Week,
-    )
+fn edges() -> Result<(), Fail> {
+    check_kinds("letters", rule_edges::BASE, &RULE_LETTERS, Kind::Rule)?;
+    check_kinds("plan as rule", plan_edges::BASE, &PLAN_AS_RULE, Kind::Rule)?;
+    check_kinds("table as sum", table_edges::BASE, &TABLE_AS_SUM, Kind::Sum)?;
+    check_kinds("rule", rule_edges::BASE, &rule_edges::EDGES, Kind::Rule)?;
+    check_kinds("plan", plan_edges::BASE, &plan_edges::EDGES, Kind::Plan)?;
+    check_kinds("table", table_edges::BASE, &table_edges::EDGES, Kind::Table)?;
+    check_kinds("table, frame", table_edges::BASE, &FRAME_EDGES, Kind::Table)?;
+    check_kinds("sum", sum_edges::BASE, &sum_edges::EDGES, Kind::Sum)?;
+    check_kinds("week", week_edges::BASE, &week_edges::EDGES, Kind::Week)
 }
 
 // No kind is asked where the length is wrong.
-fn check_lengths(rt: &impl Abort, table: &str, base: &[u8; 48], kind: Kind) -> Result<(), Fail> {
-    check_kind(rt, &Label(table, "bytes", 0), &[], kind, SIZE)?;
-    check_kind(rt, &Label(table, "bytes", 47), &base[0..47], kind, SIZE)?;
-    check_kind(rt, &Label(table, "bytes", 49), &one_more(base), kind, SIZE)
+fn check_lengths(table: &str, base: &[u8; 48], kind: Kind) -> Result<(), Fail> {
+    check_kind(&Label(table, "bytes", 0), &[], kind, SIZE)?;
+    check_kind(&Label(table, "bytes", 47), &base[0..47], kind, SIZE)?;
+    check_kind(&Label(table, "bytes", 49), &one_more(base), kind, SIZE)
 }
 
 #[test]
-fn lengths(rt: HostRuntime) -> Result<(), Fail> {
-    check_lengths(&rt, "rule", rule_edges::BASE, Kind::Rule)
+fn lengths() -> Result<(), Fail> {
+    check_lengths("rule", rule_edges::BASE, Kind::Rule)
 }

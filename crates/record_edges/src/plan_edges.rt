@@ -66,9 +66,9 @@ const WRONG_EDGES: [Edge; 7] = [
 ];
 
 #[test]
-fn edges(rt: HostRuntime) -> Result<(), Fail> {
-    check_edges::<PlanRecord>(&rt, "edges", BASE, &EDGES)?;
-    check_edges::<PlanRecord>(&rt, "full", FULL, &FULL_EDGES)?;
-    check_edges::<PlanRecord>(&rt, "wrong", WRONG, &WRONG_EDGES)?;
-    check_frame::<PlanRecord>(&rt, "frame", BASE)
+fn edges() -> Result<(), Fail> {
+    check_edges::<PlanRecord>("edges", BASE, &EDGES)?;
+    check_edges::<PlanRecord>("full", FULL, &FULL_EDGES)?;
+    check_edges::<PlanRecord>("wrong", WRONG, &WRONG_EDGES)?;
+    check_frame::<PlanRecord>("frame", BASE)
 }

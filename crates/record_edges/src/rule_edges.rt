@@ -93,9 +93,9 @@ const WRONG_EDGES: [Edge; 8] = [
 ];
 
 #[test]
-fn edges(rt: HostRuntime) -> Result<(), Fail> {
-    check_edges::<RuleRecord>(&rt, "edges", BASE, &EDGES)?;
-    check_edges::<RuleRecord>(&rt, "full", FULL, &FULL_EDGES)?;
-    check_edges::<RuleRecord>(&rt, "wrong", WRONG, &WRONG_EDGES)?;
-    check_frame::<RuleRecord>(&rt, "frame", BASE)
+fn edges() -> Result<(), Fail> {
+    check_edges::<RuleRecord>("edges", BASE, &EDGES)?;
+    check_edges::<RuleRecord>("full", FULL, &FULL_EDGES)?;
+    check_edges::<RuleRecord>("wrong", WRONG, &WRONG_EDGES)?;
+    check_frame::<RuleRecord>("frame", BASE)
 }

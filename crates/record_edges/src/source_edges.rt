@@ -21,25 +21,19 @@ const FORM_EDGES: [Edge; 12] = [
 ];
 
 #[test]
-fn edges(rt: HostRuntime) -> Result<(), Fail> {
-    check_edges::<SourceRecord>(&rt, "other forms", table_edges::BASE, &FORM_EDGES)?;
-    check_edges::<SourceRecord>(&rt, "table, edges", table_edges::BASE, &table_edges::EDGES)?;
+fn edges() -> Result<(), Fail> {
+    check_edges::<SourceRecord>("other forms", table_edges::BASE, &FORM_EDGES)?;
+    check_edges::<SourceRecord>("table, edges", table_edges::BASE, &table_edges::EDGES)?;
     check_edges::<SourceRecord>(
-        &rt,
         "table, wrong",
         table_edges::WRONG,
         &table_edges::WRONG_EDGES,
     )?;
-    check_edges::<SourceRecord>(&rt, "sum, edges", sum_edges::BASE, &sum_edges::EDGES)?;
-    check_edges::<SourceRecord>(&rt, "sum, wrong", sum_edges::WRONG, &sum_edges::WRONG_EDGES)?;
-    check_edges::<SourceRecord>(&rt, "week, edges", week_edges::BASE, &week_edges::EDGES)?;
-    check_edges::<SourceRecord>(
-        &rt,
-        "week, wrong",
-        week_edges::WRONG,
-        &week_edges::WRONG_EDGES,
-    )?;
-    check_frame::<SourceRecord>(&rt, "table, frame", table_edges::BASE)?;
-    check_frame::<SourceRecord>(&rt, "sum, frame", sum_edges::BASE)?;
-    check_frame::<SourceRecord>(&rt, "week, frame", week_edges::BASE)
+    check_edges::<SourceRecord>("sum, edges", sum_edges::BASE, &sum_edges::EDGES)?;
+    check_edges::<SourceRecord>("sum, wrong", sum_edges::WRONG, &sum_edges::WRONG_EDGES)?;
+    check_edges::<SourceRecord>("week, edges", week_edges::BASE, &week_edges::EDGES)?;
+    check_edges::<SourceRecord>("week, wrong", week_edges::WRONG, &week_edges::WRONG_EDGES)?;
+    check_frame::<SourceRecord>("table, frame", table_edges::BASE)?;
+    check_frame::<SourceRecord>("sum, frame", sum_edges::BASE)?;
+    check_frame::<SourceRecord>("week, frame", week_edges::BASE)
 }

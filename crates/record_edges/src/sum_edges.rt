@@ -81,10 +81,10 @@ pub const WRONG_EDGES: [Edge; 8] = [
 const FORM_EDGES: [Edge; 2] = [Edge(1, b"T", FORM), Edge(1, b"K", FORM)];
 
 #[test]
-fn edges(rt: HostRuntime) -> Result<(), Fail> {
-    check_edges::<SumRecord>(&rt, "edges", BASE, &EDGES)?;
-    check_edges::<SumRecord>(&rt, "eight inputs", EIGHT, &EIGHT_EDGES)?;
-    check_edges::<SumRecord>(&rt, "wrong", WRONG, &WRONG_EDGES)?;
-    check_edges::<SumRecord>(&rt, "other forms", BASE, &FORM_EDGES)?;
-    check_frame::<SumRecord>(&rt, "frame", BASE)
+fn edges() -> Result<(), Fail> {
+    check_edges::<SumRecord>("edges", BASE, &EDGES)?;
+    check_edges::<SumRecord>("eight inputs", EIGHT, &EIGHT_EDGES)?;
+    check_edges::<SumRecord>("wrong", WRONG, &WRONG_EDGES)?;
+    check_edges::<SumRecord>("other forms", BASE, &FORM_EDGES)?;
+    check_frame::<SumRecord>("frame", BASE)
 }

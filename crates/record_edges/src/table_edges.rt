@@ -95,11 +95,11 @@ pub const WRONG_EDGES: [Edge; 8] = [
 const FORM_EDGES: [Edge; 2] = [Edge(1, b"W", FORM), Edge(1, b"K", FORM)];
 
 #[test]
-fn edges(rt: HostRuntime) -> Result<(), Fail> {
-    check_edges::<TableRecord>(&rt, "edges", BASE, &EDGES)?;
-    check_edges::<TableRecord>(&rt, "seven inputs", SEVEN, &SEVEN_EDGES)?;
-    check_edges::<TableRecord>(&rt, "eight inputs", EIGHT, &EIGHT_EDGES)?;
-    check_edges::<TableRecord>(&rt, "wrong", WRONG, &WRONG_EDGES)?;
-    check_edges::<TableRecord>(&rt, "other forms", BASE, &FORM_EDGES)?;
-    check_frame::<TableRecord>(&rt, "frame", BASE)
+fn edges() -> Result<(), Fail> {
+    check_edges::<TableRecord>("edges", BASE, &EDGES)?;
+    check_edges::<TableRecord>("seven inputs", SEVEN, &SEVEN_EDGES)?;
+    check_edges::<TableRecord>("eight inputs", EIGHT, &EIGHT_EDGES)?;
+    check_edges::<TableRecord>("wrong", WRONG, &WRONG_EDGES)?;
+    check_edges::<TableRecord>("other forms", BASE, &FORM_EDGES)?;
+    check_frame::<TableRecord>("frame", BASE)
 }

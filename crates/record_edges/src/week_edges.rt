@@ -92,10 +92,10 @@ pub const WRONG_EDGES: [Edge; 8] = [
 const FORM_EDGES: [Edge; 2] = [Edge(1, b"T", FORM), Edge(1, b"W", FORM)];
 
 #[test]
-fn edges(rt: HostRuntime) -> Result<(), Fail> {
-    check_edges::<WeekRecord>(&rt, "edges", BASE, &EDGES)?;
-    check_edges::<WeekRecord>(&rt, "eight inputs", EIGHT, &EIGHT_EDGES)?;
-    check_edges::<WeekRecord>(&rt, "wrong", WRONG, &WRONG_EDGES)?;
-    check_edges::<WeekRecord>(&rt, "other forms", BASE, &FORM_EDGES)?;
-    check_frame::<WeekRecord>(&rt, "frame", BASE)
+fn edges() -> Result<(), Fail> {
+    check_edges::<WeekRecord>("edges", BASE, &EDGES)?;
+    check_edges::<WeekRecord>("eight inputs", EIGHT, &EIGHT_EDGES)?;
+    check_edges::<WeekRecord>("wrong", WRONG, &WRONG_EDGES)?;
+    check_edges::<WeekRecord>("other forms", BASE, &FORM_EDGES)?;
+    check_frame::<WeekRecord>("frame", BASE)
 }

@@ -64,7 +64,7 @@ count_of fault bs = cond (bad_run bs) (Err Run) (counted fault (length bs / 48) 
 abbrev pub Decided : {A : Type 0} → (A → List ℕ) → (List ℕ → Option RecordFault) → Type 0
 Decided {A} image fault = (bs : List ℕ) (r s : Result A RecordFault) → fault_in r ≡ fault bs → IfOk r (λ v. image v ≡ bs) → fault_in s ≡ fault bs → IfOk s (λ v. image v ≡ bs) → r ≡ s
 
--- count whole records, 512 at most
+-- n whole records, 512 at most
 abbrev pub Whole : List ℕ → ℕ → Type 0
 Whole bs n = (length bs ≡ 48 * n) × (n ≤ 512)
 

@@ -23,7 +23,7 @@ pub mod row;
 pub mod rule;
 // The kind of rules.
 pub mod rule_record;
-// Both round trips.
+// Both round trips of a record, and a run's bytes read and written again.
 pub mod round_trip;
 // One reader and one writer for the runs of every kind.
 pub mod run;

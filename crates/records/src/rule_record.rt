@@ -81,7 +81,7 @@ pub fn bodies_stand() -> u8
     0
 }
 
-// What the bytes of a rule's body allow, said of its literals.
+// The test of a body's bytes, said of its places, both ways.
 pub fn literals_stand() -> u8
     ensures { LiteralsStand }
 {

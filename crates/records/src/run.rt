@@ -1,5 +1,5 @@
 // One reader and one writer for the runs of every kind of record.
-ghost use Rattle.std.specs.Prelude.{◌≡◌, length, if◌then◌else◌, Ok, Err};
+ghost use Rattle.std.specs.Prelude.{◌≡◌, false, length, if◌then◌else◌, Ok, Err};
 ghost use Rattle.std.specs.List.{flat_map};
 ghost use Rattle.records.specs.declared.run_fault.RunFault.TheVariants.{Run};
 ghost use Rattle.records.specs.Runs.{ReadRun, RunsJudged, RunsStand, ReadBack, Decided, count_of, place_fits};
@@ -48,7 +48,7 @@ pub fn runs_stand<K: Record>() -> u8
     0
 }
 
-// Writes a run and reads it again: the same values, unless memory or the place fails.
+// Writes a run and reads it again: the same values, unless memory or the place fails. The place keeps what was written.
 pub fn read_back<K: Record>(
     heap: Global,
     values: &[K::Decoded],
@@ -56,7 +56,9 @@ pub fn read_back<K: Record>(
 ) -> Result<Vec<K::Decoded>, RunFault>
 where
     K::Decoded: Drop,
-    ensures { ReadBack values.now (length place.old) result }
+    ensures values { ReadBack values.now (length place.old) result }
+    ensures misfit { place_fits (length values.now) (length place.old) ≡ false → result ≡ Err Run }
+    ensures bytes { place.new ≡ (if place_fits (length values.now) (length place.old) then flat_map K.image values.now else place.old) }
 {
     write_run::<K>(values, place)?;
     read_run::<K>(heap, place)

@@ -5,7 +5,6 @@ use records::{
 };
 use sources::SourceRecord;
 use std::alloc::Global;
-use std::process::Abort;
 use std::test::Fail;
 
 // A fact: atom 7.
@@ -38,20 +37,21 @@ const LETTER: Named = Named {
     byte: 0,
 };
 
-fn check_fault(
-    rt: &impl Abort,
-    name: &str,
-    fault: RunFault,
-    place: usize,
-    want: Named,
-) -> Result<(), Fail> {
-    assert_eq!(rt; fault.place(), place, "{name}");
-    assert_eq!(rt; fault.named(), Some(want), "{name}");
-    Ok(())
+// A check that fails is named.
+fn check(holds: bool, name: &str) -> Result<(), Fail> {
+    if holds {
+        Ok(())
+    } else {
+        Err(Fail::new(format_args!("{name}")))
+    }
+}
+
+fn check_fault(name: &str, fault: RunFault, place: usize, want: Named) -> Result<(), Fail> {
+    check(fault.place() == place, name)?;
+    check(fault.named() == Some(want), name)
 }
 
 fn check_refused<K: Record>(
-    rt: &impl Abort,
     heap: Global,
     name: &str,
     run: &[u8],
@@ -63,17 +63,16 @@ where
 {
     match check_run::<K>(run) {
         Ok(_) => return Err(Fail::new(format_args!("{name}: counted"))),
-        Err(fault) => check_fault(rt, name, fault, place, want)?,
+        Err(fault) => check_fault(name, fault, place, want)?,
     }
     match read_run::<K>(heap, run) {
         Ok(_) => Err(Fail::new(format_args!("{name}: read"))),
-        Err(fault) => check_fault(rt, name, fault, place, want),
+        Err(fault) => check_fault(name, fault, place, want),
     }
 }
 
 // Both round trips in one call each.
 fn check_trips<K: Record>(
-    rt: &impl Abort,
     heap: Global,
     name: &str,
     values: &[K::Decoded],
@@ -84,31 +83,24 @@ where
 {
     let mut place = vec![in heap; 0xAA; run.len()]?;
     rewrite_run::<K>(heap, run, place.as_mut_slice())?;
-    assert!(rt; place.as_slice() == run, "{name}");
+    check(place.as_slice() == run, name)?;
     let same = read_back::<K>(heap, values, place.as_mut_slice())?;
-    assert_eq!(rt; same.len(), values.len(), "{name}");
-    assert!(rt; place.as_slice() == run, "{name}");
-    Ok(())
+    check(same.len() == values.len(), name)?;
+    check(place.as_slice() == run, name)
 }
 
 // What is read is written again as the same bytes.
-fn check_kept<K: Record>(
-    rt: &impl Abort,
-    heap: Global,
-    name: &str,
-    run: &[u8],
-    count: usize,
-) -> Result<(), Fail>
+fn check_kept<K: Record>(heap: Global, name: &str, run: &[u8], count: usize) -> Result<(), Fail>
 where
     K::Decoded: Drop,
 {
-    assert_eq!(rt; check_run::<K>(run), Ok(count), "{name}");
+    check(check_run::<K>(run) == Ok(count), name)?;
     let values = read_run::<K>(heap, run)?;
-    assert_eq!(rt; values.len(), count, "{name}");
+    check(values.len() == count, name)?;
     let mut place = vec![in heap; 0xAA; run.len()]?;
     write_run::<K>(values.as_slice(), place.as_mut_slice())?;
-    assert!(rt; place.as_slice() == run, "{name}");
-    check_trips::<K>(rt, heap, name, values.as_slice(), run)
+    check(place.as_slice() == run, name)?;
+    check_trips::<K>(heap, name, values.as_slice(), run)
 }
 
 fn join(heap: Global, records: &[&[u8; 48]]) -> Result<Vec<u8>, Fail> {
@@ -120,26 +112,21 @@ fn join(heap: Global, records: &[&[u8; 48]]) -> Result<Vec<u8>, Fail> {
 }
 
 // All good, the second one bad, and the first and the third bad.
-fn check_places<K: Record>(
-    rt: &impl Abort,
-    heap: Global,
-    good: &[u8; 48],
-    bad: &[u8; 48],
-) -> Result<(), Fail>
+fn check_places<K: Record>(heap: Global, good: &[u8; 48], bad: &[u8; 48]) -> Result<(), Fail>
 where
     K::Decoded: Drop,
 {
-    check_kept::<K>(rt, heap, "no record", &[], 0)?;
+    check_kept::<K>(heap, "no record", &[], 0)?;
     let three = join(heap, &[good, good, good])?;
-    check_kept::<K>(rt, heap, "three good", three.as_slice(), 3)?;
+    check_kept::<K>(heap, "three good", three.as_slice(), 3)?;
     let second = join(heap, &[good, bad, good])?;
-    check_refused::<K>(rt, heap, "second bad", second.as_slice(), 1, LETTER)?;
+    check_refused::<K>(heap, "second bad", second.as_slice(), 1, LETTER)?;
     let first = join(heap, &[bad, good, bad])?;
-    check_refused::<K>(rt, heap, "first and third bad", first.as_slice(), 0, LETTER)
+    check_refused::<K>(heap, "first and third bad", first.as_slice(), 0, LETTER)
 }
 
 // A length that is not that of whole records, and 512 and 513 of them.
-fn check_lengths<K: Record>(rt: &impl Abort, heap: Global, good: &[u8; 48]) -> Result<(), Fail>
+fn check_lengths<K: Record>(heap: Global, good: &[u8; 48]) -> Result<(), Fail>
 where
     K::Decoded: Drop,
 {
@@ -147,60 +134,51 @@ where
     for _ in 0..512 {
         run.extend_from_slice(good)?;
     }
-    check_kept::<K>(rt, heap, "512 records", run.as_slice(), 512)?;
+    check_kept::<K>(heap, "512 records", run.as_slice(), 512)?;
     run.push(0)?;
-    check_refused::<K>(rt, heap, "a byte more", run.as_slice(), 0, LENGTH)?;
+    check_refused::<K>(heap, "a byte more", run.as_slice(), 0, LENGTH)?;
     run.extend_from_slice(&good[1..48])?;
-    check_refused::<K>(rt, heap, "513 records", run.as_slice(), 0, LENGTH)?;
-    check_refused::<K>(rt, heap, "47 bytes", &good[0..47], 0, LENGTH)
+    check_refused::<K>(heap, "513 records", run.as_slice(), 0, LENGTH)?;
+    check_refused::<K>(heap, "47 bytes", &good[0..47], 0, LENGTH)
 }
 
 // A place that is refused keeps its bytes.
-fn check_misfit<K: Record>(
-    rt: &impl Abort,
-    name: &str,
-    values: &[K::Decoded],
-    len: usize,
-) -> Result<(), Fail> {
+fn check_misfit<K: Record>(name: &str, values: &[K::Decoded], len: usize) -> Result<(), Fail> {
     let mut place = [0xAA; 96];
-    assert!(rt; len <= 96, "{name}");
+    if len > 96 {
+        return Err(Fail::new(format_args!("{name}: too long")));
+    }
     match write_run::<K>(values, &mut place[0..len]) {
         Ok(()) => return Err(Fail::new(format_args!("{name}: written"))),
-        Err(fault) => check_fault(rt, name, fault, 0, LENGTH)?,
+        Err(fault) => check_fault(name, fault, 0, LENGTH)?,
     }
-    assert!(rt; place == [0xAA; 96], "{name}");
-    Ok(())
+    check(place == [0xAA; 96], name)
 }
 
-fn check_runs<K: Record>(
-    rt: &impl Abort,
-    heap: Global,
-    good: &[u8; 48],
-    bad: &[u8; 48],
-) -> Result<(), Fail>
+fn check_runs<K: Record>(heap: Global, good: &[u8; 48], bad: &[u8; 48]) -> Result<(), Fail>
 where
     K::Decoded: Drop,
 {
-    check_places::<K>(rt, heap, good, bad)?;
-    check_lengths::<K>(rt, heap, good)?;
+    check_places::<K>(heap, good, bad)?;
+    check_lengths::<K>(heap, good)?;
     let values = read_run::<K>(heap, good)?;
-    check_misfit::<K>(rt, "a place of 0", values.as_slice(), 0)?;
-    check_misfit::<K>(rt, "a place of 47", values.as_slice(), 47)?;
-    check_misfit::<K>(rt, "a place of 49", values.as_slice(), 49)?;
-    check_misfit::<K>(rt, "a place of 96", values.as_slice(), 96)
+    check_misfit::<K>("a place of 0", values.as_slice(), 0)?;
+    check_misfit::<K>("a place of 47", values.as_slice(), 47)?;
+    check_misfit::<K>("a place of 49", values.as_slice(), 49)?;
+    check_misfit::<K>("a place of 96", values.as_slice(), 96)
 }
 
 #[test]
 fn rules(rt: HostRuntime) -> Result<(), Fail> {
-    check_runs::<RuleRecord>(&rt, rt.alloc(), RULE, PLAN)
+    check_runs::<RuleRecord>(rt.alloc(), RULE, PLAN)
 }
 
 #[test]
 fn plans(rt: HostRuntime) -> Result<(), Fail> {
-    check_runs::<PlanRecord>(&rt, rt.alloc(), PLAN, WEEK)
+    check_runs::<PlanRecord>(rt.alloc(), PLAN, WEEK)
 }
 
 #[test]
 fn sources(rt: HostRuntime) -> Result<(), Fail> {
-    check_runs::<SourceRecord>(&rt, rt.alloc(), WEEK, RULE)
+    check_runs::<SourceRecord>(rt.alloc(), WEEK, RULE)
 }
