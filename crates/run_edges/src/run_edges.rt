@@ -71,7 +71,7 @@ where
     }
 }
 
-// Both round trips in one call each.
+// Both round trips in one call each, over a place that holds nothing of the run before.
 fn check_trips<K: Record>(
     heap: Global,
     name: &str,
@@ -84,9 +84,12 @@ where
     let mut place = vec![in heap; 0xAA; run.len()]?;
     rewrite_run::<K>(heap, run, place.as_mut_slice())?;
     check(place.as_slice() == run, name)?;
-    let same = read_back::<K>(heap, values, place.as_mut_slice())?;
-    check(same.len() == values.len(), name)?;
-    check(place.as_slice() == run, name)
+    let mut fresh = vec![in heap; 0xAA; run.len()]?;
+    let same = read_back::<K>(heap, values, fresh.as_mut_slice())?;
+    check(fresh.as_slice() == run, name)?;
+    let mut again = vec![in heap; 0xAA; run.len()]?;
+    write_run::<K>(same.as_slice(), again.as_mut_slice())?;
+    check(again.as_slice() == run, name)
 }
 
 // What is read is written again as the same bytes.
