@@ -1,8 +1,9 @@
 -- A row by its places is its rule by the definitions. Assumes nothing.
-use Rattle.std.proofs.Common.{◌≡◌, ℕ, zero, suc, ◌<◌, Bool, true, false, cond, not, ◌&&◌, ltb, List, [], ◌∷◌, length, get_or, Some, None, Option, sym, refl, ◌∙◌, inl, inr, ⊎_elim, arith}
+use Rattle.std.proofs.Common.{◌≡◌, ℕ, zero, suc, ◌<◌, Bool, true, false, cond, not, ltb, List, [], ◌∷◌, length, get_or, None, Option, sym, refl, ◌∙◌, inl, inr, ⊎_elim, arith}
 use mathlib.Core.Option.{Option as Found-option, none, some}
-use Rattle.std.proofs.lemmas.Bool.{both_ways, or_cases, or_left, or_right, and_parts, and_cases, and_left, and_right, not-true, not_from_false, lt-ltb}
-use Rattle.semantics.specs.Program.{Interp, Rule, Meaning, any, all, Each, literal_true, body_true, satisfied, Model, atom_limit}
+use Rattle.std.proofs.lemmas.List.Recursion.{and_at, and_fails_at, or_at}
+use Rattle.std.proofs.lemmas.Bool.{both_ways, or_cases, or_left, or_right, and_cases, not-true, not_from_false}
+use Rattle.semantics.specs.Program.{Interp, Plan, Rule, Meaning, any, all, Each, literal_true, body_true, satisfied, Model, atom_limit}
 use Rattle.semantics.specs.Judge.{first_broken}
 use Rattle.semantics.specs.Check.{literal_known, sources_known}
 use Rattle.records.specs.declared.literal.Literal.{Literal}
@@ -10,6 +11,7 @@ use Rattle.records.specs.declared.row.RuleRow.{RuleRow}
 use Rattle.rulebook.specs.Rules.{head_of, body_of, rule_of, rules_of, place_true, place_known, no_row}
 use Rattle.judge.specs.Ways.{HeadIn, Fails, Sat, Known}
 use Rattle.judge.specs.Search.{KnownAll}
+use Rattle.judge.proofs.Rows.{known_one, true_one, head_one}
 
 -- a head atom by its place
 head_to : (K : Interp) (hs : List ℕ) → any K (head_of hs) ≡ true → HeadIn hs (length hs) K
@@ -23,18 +25,8 @@ head_to K (a ∷ hs) e = go (ltb a atom_limit) (head_to K hs) e
     go true f e = ⊎_elim (λ (h : K a ≡ true). record { place = 0; before = omega arith; in_plan = h }) (λ (h : any K (head_of hs) ≡ true). later (f h)) (or_cases (K a) _ e)
     go false f e = later (f e)
 
-head_from : (K : Interp) → ((a : ℕ) → K a ≡ true → a < atom_limit) → (hs : List ℕ) (k : ℕ) → k < length hs → K (get_or hs k 0) ≡ true → any K (head_of hs) ≡ true
-head_from K small [] k lt e = absurd (omega arith)
-head_from K small (a ∷ hs) zero lt e = go (ltb a atom_limit) (lt-ltb a atom_limit (small a e))
-  where
-    go : (t : Bool) → t ≡ true → any K (cond t (a ∷ head_of hs) (head_of hs)) ≡ true
-    go true q = or_left (K a) _ e
-    go false q = absurd (both_ways false refl q)
-head_from K small (a ∷ hs) (suc k) lt e = go (ltb a atom_limit) (head_from K small hs k (omega arith) e)
-  where
-    go : (t : Bool) → any K (head_of hs) ≡ true → any K (cond t (a ∷ head_of hs) (head_of hs)) ≡ true
-    go true f = or_right (K a) _ f
-    go false f = f
+head_from : (K : Interp) → Plan K → (hs : List ℕ) (k : ℕ) → k < length hs → K (get_or hs k 0) ≡ true → any K (head_of hs) ≡ true
+head_from K small hs k lt e = or_at (λ l. any K (head_of l)) K refl (head_one K small) hs k 0 lt e
 
 -- a literal by its place
 module _ (b : Meaning) (K : Interp) where
@@ -44,20 +36,14 @@ module _ (b : Meaning) (K : Interp) where
   fails_here : (t : Option Literal) (ts : List (Option Literal)) → place_true b K t ≡ false → Fails b (t ∷ ts) (length (t ∷ ts)) K
   fails_here t ts e = record { place = 0; before = omega arith; fails = e }
 
-  one : (t : Option Literal) (ts : List (Option Literal)) → all (literal_true b K) (body_of (t ∷ ts)) ≡ (place_true b K t && all (literal_true b K) (body_of ts))
-  one None ts = refl
-  one (Some l) ts = refl
-
   body_to : (ts : List (Option Literal)) → all (literal_true b K) (body_of ts) ≡ false → Fails b ts (length ts) K
   body_to [] e = absurd (both_ways true e refl)
   body_to (t ∷ ts) e =
       ⊎_elim (λ (h : place_true b K t ≡ false). fails_here t ts h) (λ (h : all (literal_true b K) (body_of ts) ≡ false). fails_later t ts (body_to ts h))
-      (and_cases (place_true b K t) _ (sym (one t ts) ∙ e))
+      (and_cases (place_true b K t) _ (sym (true_one b K t ts) ∙ e))
 
   body_from : (ts : List (Option Literal)) (k : ℕ) → k < length ts → place_true b K (get_or ts k None) ≡ false → all (literal_true b K) (body_of ts) ≡ false
-  body_from [] k lt e = absurd (omega arith)
-  body_from (t ∷ ts) zero lt e = one t ts ∙ and_left (place_true b K t) _ e
-  body_from (t ∷ ts) (suc k) lt e = one t ts ∙ and_right (place_true b K t) _ (body_from ts k (omega arith) e)
+  body_from ts k lt e = and_fails_at (λ l. all (literal_true b K) (body_of l)) (place_true b K) refl (true_one b K) ts k None lt e
 
   pub sat_to : (r : RuleRow) → satisfied b K (rule_of r) ≡ true → Sat b r K
   sat_to r e =
@@ -66,7 +52,7 @@ module _ (b : Meaning) (K : Interp) where
       (λ (h : any K (rule_of r).head ≡ true). inl (head_to K r.head h))
       (or_cases (not (body_true b K (rule_of r))) _ e)
 
-  pub sat_from : ((a : ℕ) → K a ≡ true → a < atom_limit) → (r : RuleRow) → Sat b r K → satisfied b K (rule_of r) ≡ true
+  pub sat_from : Plan K → (r : RuleRow) → Sat b r K → satisfied b K (rule_of r) ≡ true
   sat_from small r (inl h) = or_right (not (body_true b K (rule_of r))) _ (head_from K small r.head h.place h.before h.in_plan)
   sat_from small r (inr h) = or_left _ (any K (rule_of r).head) (not_from_false _ (body_from r.body h.place h.before h.fails))
 
@@ -82,24 +68,10 @@ rows_each P (r ∷ rows) f = (f 0 (omega arith), rows_each P rows (λ k lt. f (s
 
 -- the sources
 body_known : (b : Meaning) (ts : List (Option Literal)) → all (literal_known b) (body_of ts) ≡ true → Known b ts
-body_known b [] e = λ k lt. absurd (omega arith)
-body_known b (t ∷ ts) e = go (body_known b ts)
-  where
-    split : (t : Option Literal) → all (literal_known b) (body_of (t ∷ ts)) ≡ (place_known b t && all (literal_known b) (body_of ts))
-    split None = refl
-    split (Some l) = refl
-
-    parts : (place_known b t ≡ true) × (all (literal_known b) (body_of ts) ≡ true)
-    parts = and_parts (place_known b t) _ (sym (split t) ∙ e)
-
-    go : (all (literal_known b) (body_of ts) ≡ true → Known b ts) → (k : ℕ) → k < length (t ∷ ts) → place_known b (get_or (t ∷ ts) k None) ≡ true
-    go f zero lt = parts.0
-    go f (suc k) lt = f parts.1 k (omega arith)
+body_known b ts e k lt = and_at (λ l. all (literal_known b) (body_of l)) (place_known b) refl (known_one b) ts k None lt e
 
 pub rows_known : (b : Meaning) (rows : List RuleRow) → sources_known b (rules_of rows) ≡ true → KnownAll b rows
-rows_known b [] e k lt = absurd (omega arith)
-rows_known b (r ∷ rows) e zero lt = body_known b r.body (and_parts (all (literal_known b) (body_of r.body)) _ e).0
-rows_known b (r ∷ rows) e (suc k) lt = rows_known b rows (and_parts (all (literal_known b) (body_of r.body)) _ e).1 k (omega arith)
+rows_known b rows e k lt = body_known b (get_or rows k no_row).body (and_at (λ l. sources_known b (rules_of l)) (λ r. all (literal_known b) (body_of r.body)) refl (λ _ _. refl) rows k no_row lt e)
 
 -- no rule is broken
 pub unbroken : (m : Meaning) (I : Interp) (n : ℕ) (rules : List Rule) → first_broken m I n rules ≡ none → Model m I rules

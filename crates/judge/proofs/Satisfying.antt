@@ -1,5 +1,5 @@
 -- Ways to satisfy a rule, taken together one by one. Assumes nothing.
-use Rattle.std.proofs.Common.{◌≡◌, ℕ, ◌+◌, ◌<◌, ◌≤◌, Bool, true, false, cond, eqb, ◌⊎◌, List, length, get_or, Some, None, Option, sym, refl, subst, inl, inr, ⊎_elim, arith}
+use Rattle.std.proofs.Common.{◌≡◌, ℕ, ◌+◌, ◌<◌, ◌≤◌, Bool, true, false, cond, eqb, ◌⊎◌, List, [], ◌∷◌, ◌++◌, length, length-append, below_more, get_or, Some, None, Option, sym, refl, subst, inl, inr, ⊎_elim, arith}
 use Rattle.std.proofs.lemmas.Bool.{eqb-true, both_ways, cases_lt, not-false}
 use Rattle.semantics.specs.Program.{Interp, Meaning}
 use Rattle.plans.specs.Partial.{Decided, place_at, Within, Opened}
@@ -11,7 +11,8 @@ use Rattle.records.specs.declared.literal.Literal.TheVariants.{Atom, NotAtom, So
 use Rattle.records.specs.declared.row.RuleRow.{RuleRow}
 use Rattle.judge.specs.declared.ways.Ways.{Ways}
 use Rattle.judge.specs.declared.ways.Ways.TheVariants.{NoWay, Keep, Remove, Several}
-use Rattle.rulebook.specs.Rules.{place_true, place_known}
+use Rattle.rulebook.specs.Rules.{place_true, place_known, no_row}
+use Rattle.judge.specs.Search.{SatAll}
 use Rattle.judge.specs.Ways.{Unsettled, Leaves, Asks, HeadIn, Fails, Meets, Sat, Known, ways_and, way_to_fail, is_several}
 
 module _ (p : PartialPlan) (N : Type 0) where
@@ -70,9 +71,6 @@ fail_split b body i K h =
     (cases_lt h.place i)
 
 module _ (p : PartialPlan) (N : Type 0) (head : List ℕ) where
-  pub heads_none : Leaves p (HeadIn head 0) N NoWay
-  heads_none K w h = let lt = h.before in omega arith
-
   pub heads_out : (i : ℕ) (s : Ways) → Leaves p (HeadIn head i) N s → place_at p (get_or head i 0) ≡ Out → Leaves p (HeadIn head (i + 1)) N s
   heads_out i s h e =
       narrow p N (λ K w q. ⊎_elim (λ (l : HeadIn head i K). l) (λ (r : K (get_or head i 0) ≡ true). absurd (both_ways _ (place_out p (get_or head i 0) e K w) r)) (head_split head i K q)) s h
@@ -140,6 +138,19 @@ module _ (b : Meaning) (p : PartialPlan) (r : RuleRow) where
 
   pub given_up : (i : ℕ) → Leaves p (Meets b r H i) N Several → Asks p (Sat b r) N Several
   given_up i h = λ n d. absurd (h n d)
+
+-- what one rule asks is asked by all
+pub asked_by_all : (p : PartialPlan) (N M : Type 0) (Q R : Interp → Type 0) → ((K : Interp) → R K → Q K) → (s : Ways) → is_several s ≡ false → Asks p Q N s → Asks p R M s
+asked_by_all p N M Q R f NoWay e h = λ K w r. h K w (f K r)
+asked_by_all p N M Q R f (Keep a) e h = (h.0, λ K w r. h.1 K w (f K r))
+asked_by_all p N M Q R f (Remove a) e h = (h.0, λ K w r. h.1 K w (f K r))
+asked_by_all p N M Q R f Several e h = absurd (both_ways true e refl)
+
+-- one row more that is satisfied if it is live
+pub sat_more : {X : Type 0} (m : Meaning) (rows : List RuleRow) (live : List Bool) (K : Interp) (xs : List X) (x : X) → SatAll m rows live (length xs) K → (get_or live (length xs) false ≡ true → Sat m (get_or rows (length xs) no_row) K) → SatAll m rows live (length (xs ++ x ∷ [])) K
+sat_more m rows live K xs x all one k lt e =
+    let n : length (xs ++ x ∷ []) ≡ length xs + 1 = length-append xs (x ∷ []) in
+    below_more (λ i. get_or live i false ≡ true → Sat m (get_or rows i no_row) K) (length xs) all one k (omega arith) e
 
 pub several_is : (s : Ways) → is_several s ≡ true → s ≡ Several
 several_is NoWay e = absurd (both_ways false refl e)

@@ -1,14 +1,13 @@
 -- How a search comes together. Assumes nothing.
-use Rattle.std.proofs.Common.{◌≡◌, ℕ, ◌<◌, ◌≤◌, Bool, true, false, List, length, Some, None, Option, sym, ◌∙◌, subst, ⊎_elim, arith}
-use Rattle.std.proofs.lemmas.Bool.{both_ways, cases_Bool, cases_lt, cases_eq}
-use Rattle.semantics.specs.Program.{Interp, Meaning, atom_limit}
-use Rattle.plans.specs.Partial.{Admits, Decided, status_at, full, Within, Opened, Decides}
+use Rattle.std.proofs.Common.{◌≡◌, ℕ, ◌<◌, ◌≤◌, true, false, Some, None, Option, sym, ◌∙◌, subst, ⊎_elim, arith}
+use Rattle.std.proofs.lemmas.Bool.{both_ways, cases_Bool, cases_lt, cases_eq, false_from_ne_true}
+use Rattle.semantics.specs.Program.{Interp, atom_limit}
+use Rattle.plans.specs.Partial.{Admits, status_at, full, Within, Opened, Decides, open_one, open_below}
 use Rattle.plans.specs.declared.partial_plan.PartialPlan.{PartialPlan}
 use Rattle.plans.specs.declared.partial_plan.Status.{Status}
 use Rattle.plans.specs.declared.partial_plan.Status.TheVariants.{In, Out, Open}
-use Rattle.plans.proofs.Partial.{full_within, settled, not_true_false, only_full, decide_on, decide_back, decide_value}
-use Rattle.records.specs.declared.row.RuleRow.{RuleRow}
-use Rattle.judge.specs.Search.{SatAll, Fit, Sooner, Found, Lacking}
+use Rattle.plans.proofs.Partial.{settled, fewer, decide_on, decide_back, decide_value}
+use Rattle.judge.specs.Search.{Sooner, Found}
 
 pub refine : (F : Interp → Type 0) (p q : PartialPlan) → ((K : Interp) → Within q K → Within p K) → ((K : Interp) → Within p K → F K → Within q K) → (r : Option PartialPlan) → Found F q r → Found F p r
 refine F p q back on None h = λ K w f. h K (on K w f) f
@@ -17,6 +16,10 @@ refine F p q back on (Some x) h = (back (full x) h.0, h.1, λ K w f s. h.2 K (on
 -- an atom that must be kept, or removed
 pub forced : (F : Interp → Type 0) (p q : PartialPlan) (a : ℕ) (s : Status) → Opened p a → Decides p a s q → ((K : Interp) → Within p K → F K → Admits s (K a)) → (r : Option PartialPlan) → Found F q r → Found F p r
 forced F p q a s o d must r h = refine F p q (decide_back p q a s o d) (λ K w f. decide_on p q a s o d K w (must K w f)) r h
+
+-- fewer atoms are open then
+pub fewer_than : (p q : PartialPlan) (a : ℕ) (s : Status) (n : ℕ) → Opened p a → Decides p a s q → open_one s ≡ 0 → open_below atom_limit p ≡ n → open_below atom_limit q < n
+fewer_than p q a s n o d z e = subst (λ (k : ℕ). open_below atom_limit q < k) e (fewer p q a s o d z)
 
 -- the lowest open atom is tried kept first
 module _ (F : Interp → Type 0) (p q : PartialPlan) (a : ℕ) (o : Opened p a) (low : (c : ℕ) → c < a → status_at p c ≡ Open → ⊥) (d : Decides p a In q) where
@@ -55,18 +58,4 @@ module _ (F : Interp → Type 0) (p q : PartialPlan) (a : ℕ) (o : Opened p a) 
 
   pub keep_none : (z : PartialPlan) → Decides p a Out z → Found F q None → (r : Option PartialPlan) → Found F z r → Found F p r
   keep_none z dz h r k =
-      forced F p z a Out o dz (λ K w f. not_true_false (K a) (λ t. h K (decide_on p q a In o d K w t) f)) r k
-
--- no atom is open
-module _ (b : Meaning) (rows : List RuleRow) (live : List Bool) (plan p : PartialPlan) (d : Decided p) where
-  pub leaf_some : ((K : Interp) → Within p K → SatAll b rows live (length rows) K) → Lacking plan p true → Found (Fit b rows live plan) p (Some p)
-  leaf_some sat l = (
-    full_within p,
-    record { lacks = l; meets = sat (full p) (full_within p) },
-    λ K w f s. both_ways (K s.place) (subst (λ (L : Interp). L s.place ≡ false) (sym (only_full p K d w)) s.lacks) s.has,
-  )
-
-  pub leaf_none : Lacking plan p false → Found (Fit b rows live plan) p None
-  leaf_none l K w f =
-      let x = f.lacks in
-      both_ways (K x.0) x.2 (subst (λ (L : Interp). L x.0 ≡ true) (sym (only_full p K d w)) (l x.0 x.1))
+      forced F p z a Out o dz (λ K w f. false_from_ne_true (K a) (λ t. h K (decide_on p q a In o d K w t) f)) r k

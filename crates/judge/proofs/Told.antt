@@ -1,8 +1,8 @@
 -- The answers of a check, step by step. Assumes nothing.
-use Rattle.std.proofs.Common.{◌≡◌, ℕ, ◌<◌, ◌≤◌, Bool, true, false, cond, ◌&&◌, eqb, ltb, List, length, Some, None, sym, refl, ap, ◌∙◌, ⊎_elim, arith}
+use Rattle.std.proofs.Common.{◌≡◌, ℕ, ◌<◌, ◌≤◌, Bool, true, false, cond, ◌&&◌, eqb, ltb, List, length, Some, None, Result, subst, sym, refl, ap, ◌∙◌, ⊎_elim, arith}
 use mathlib.Core.Path.{fun_ext}
 use mathlib.Core.Option.{Option, none, some}
-use Rattle.std.proofs.lemmas.Bool.{both_ways, cases_Bool, and_left, lt-ltb, le-ltb, ltb-true, eq-eqb, ne_eqb}
+use Rattle.std.proofs.lemmas.Bool.{both_ways, cases_Bool, and_left, lt-ltb, le-ltb, ltb-true, eq-eqb}
 use Rattle.semantics.specs.Program.{Interp, Plan, Rule, Meaning, atom_limit}
 use Rattle.semantics.specs.Judge as J
 use Rattle.semantics.specs.Check.{Checked, fault, answered, checked, sources_known, size_below, search_limit}
@@ -11,12 +11,14 @@ use Rattle.plans.specs.Bits.{marked}
 use Rattle.plans.specs.Partial.{Decided, status_at, is_in, full, Opens, removed}
 use Rattle.plans.specs.declared.partial_plan.PartialPlan.{PartialPlan}
 use Rattle.plans.specs.declared.partial_plan.Status.{Status}
-use Rattle.plans.specs.declared.partial_plan.Status.TheVariants.{In, Out, Open}
+use Rattle.plans.specs.declared.partial_plan.Status.TheVariants.{In, Out}
 use Rattle.plans.proofs.Partial.{full_within}
 use Rattle.records.specs.declared.row.RuleRow.{RuleRow}
 use Rattle.rulebook.specs.Rules.{rules_of}
 use Rattle.judge.specs.Search.{Live, Fit, Found}
-use Rattle.judge.specs.Outcome.{outcome}
+use Rattle.judge.specs.Outcome.{outcome, Told}
+use Rattle.judge.specs.declared.verdict.Verdict.{Verdict}
+use Rattle.judge.specs.declared.verdict.CallFault.{CallFault}
 use Rattle.judge.proofs.Satisfied.{unbroken}
 use Rattle.judge.proofs.Unfounded.{free_when, earliest}
 
@@ -57,13 +59,6 @@ module _ (rules : List Rule) (m : Meaning) (I : Interp) (place : List ℕ) (long
     unfolding search_limit
     told_judged e n is le = past_broken e ∙ ap (later none) (le-ltb 24 (size_below atom_limit I) (omega arith))
 
-pub told_place : (rules : List Rule) (m : Meaning) (I : Interp) (place : List ℕ) → (length place ≡ 32 → ⊥) → outcome rules m I place ≡ fault 1
-told_place rules m I place ne = go (eqb (length place) 32) (ne_eqb (length place) 32 ne)
-  where
-    go : (t : Bool) → t ≡ false → elim t [ true ↦ checked rules m I | false ↦ fault 1 ] ≡ fault 1
-    go true e = absurd (both_ways true e refl)
-    go false e = refl
-
 -- what the search says is the judgement
 is_plan : (plan : PartialPlan) → Plan (full plan)
 is_plan plan a e = (full_within plan).small a e
@@ -79,14 +74,16 @@ module _ (m : Meaning) (rows : List RuleRow) (live : List Bool) (plan rest : Par
       let ok = unbroken m (full plan) 0 (rules_of rows) unbroken-all in
       (judge_right (rules_of rows) m (full plan) (is_plan plan) (J.unfounded (removed plan s))).1 (ok, earliest m rows live plan rest is_live opens d ok s f)
 
+-- what is told of the same rules, sources and plan is the same
+pub same_told : {rules rules' : List Rule} {m m' : Meaning} {I I' : Interp} → rules ≡ rules' → m ≡ m' → I ≡ I' → (before after : List ℕ) (r : Result Verdict CallFault) → Told (outcome rules m I before) before after r → Told (outcome rules' m' I' before) before after r
+same_told {rules' = rules'} {m = m} {m' = m'} {I = I} same_rules same_meaning same_plan before after r =
+    subst (λ (c : Checked). Told c before after r)
+    (ap (λ (x : List Rule). outcome x m I before) same_rules ∙ ap (λ (x : Meaning). outcome rules' x I before) same_meaning ∙ ap (λ (x : Interp). outcome rules' m' x before) same_plan)
+
 -- the plan that is made of the marks
 told : (v : Bool) → is_in (cond v In Out) ≡ v
 told true = refl
 told false = refl
-
-never_open : (v : Bool) → cond v In Out ≡ Open → ⊥
-never_open true e = let z : ◌≡◌ {A = ℕ} 0 1 = cc in omega arith
-never_open false e = let z : ◌≡◌ {A = ℕ} 0 1 = cc in omega arith
 
 module _ (bytes : List ℕ) (plan : PartialPlan) (h : (a : ℕ) → a < atom_limit → status_at plan a ≡ cond (marked bytes a) In Out) where
   pub marks_full : full plan ≡ marked bytes
@@ -102,6 +99,3 @@ module _ (bytes : List ℕ) (plan : PartialPlan) (h : (a : ℕ) → a < atom_lim
           (λ (e : ltb a atom_limit ≡ true). ap (λ (s : Status). ltb a atom_limit && is_in s) (f e) ∙ ap (λ (v : Bool). ltb a atom_limit && v) (told (marked bytes a)) ∙ inside (ltb a atom_limit) _ e)
           (λ (e : ltb a atom_limit ≡ false). and_left (ltb a atom_limit) _ e ∙ sym (and_left (ltb a atom_limit) _ e))
           (cases_Bool (ltb a atom_limit))
-
-  pub marks_decided : Decided plan
-  marks_decided a lt e = never_open (marked bytes a) (sym (h a lt) ∙ e)

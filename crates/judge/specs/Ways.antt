@@ -6,8 +6,6 @@ use Rattle.plans.specs.declared.partial_plan.PartialPlan.{PartialPlan}
 use Rattle.records.specs.declared.literal.Literal.{Literal}
 use Rattle.records.specs.declared.literal.Literal.TheVariants.{Atom, NotAtom, Source, NotSource}
 use Rattle.records.specs.declared.row.RuleRow.{RuleRow}
-use Rattle.judge.specs.declared.truth.Truth.{Truth}
-use Rattle.judge.specs.declared.truth.Truth.TheVariants.{True, False, Unsure}
 use Rattle.judge.specs.declared.ways.Ways.{Ways}
 use Rattle.judge.specs.declared.ways.Ways.TheVariants.{NoWay, Keep, Remove, Several}
 use Rattle.rulebook.specs.Rules.{place_true, place_known}
@@ -20,11 +18,10 @@ Unsettled m p (Some (NotAtom a)) = Opened p a
 Unsettled m p (Some (Source s)) = place_known m (Some (Source s)) ≡ true → Decided p → ⊥
 Unsettled m p (Some (NotSource s)) = place_known m (Some (NotSource s)) ≡ true → Decided p → ⊥
 
--- what an evaluation says of a place of a body
-abbrev pub Tells : Meaning → PartialPlan → Option Literal → Truth → Type 0
-Tells m p t True = (K : Interp) → Within p K → place_true m K t ≡ true
-Tells m p t False = (K : Interp) → Within p K → place_true m K t ≡ false
-Tells m p t Unsure = Unsettled m p t
+-- what an evaluation says of a place of a body: its truth, or that it is not settled
+abbrev pub Tells : Meaning → PartialPlan → Option Literal → Option Bool → Type 0
+Tells m p t None = Unsettled m p t
+Tells m p t (Some v) = (K : Interp) → Within p K → place_true m K t ≡ v
 
 -- what is left of a choice between ways in which Q can come true, where N is a premise
 abbrev pub Leaves : PartialPlan → (Interp → Type 0) → Type 0 → Ways → Type 0

@@ -5,6 +5,8 @@
 pub mod verdict;
 // The check of a plan.
 pub mod checking;
+// Whether the oracle has the sources that rules name.
+mod sources;
 // Which rules the plan makes true in the body, and the lowest one that it breaks.
 mod reduct;
 // The truth of a literal on a partial plan.

@@ -1,48 +1,46 @@
-// The truth of a literal on a partial plan.
+// The truth of a literal on a partial plan, as far as the plan settles it.
 ghost use Rattle.std.specs.Prelude.{◌≡◌};
+ghost use Rattle.semantics.specs.Program.{Meaning};
 ghost use Rattle.judge.specs.Ways.{Tells};
 
 use oracles::{Oracle, Reply};
-use plans::{PartialPlan, Status};
+use plans::PartialPlan;
 use records::Literal;
 
-// A truth as far as a partial plan settles it.
-#[derive(Clone, Copy)]
-pub(crate) enum Truth {
-    True,
-    False,
-    Unsure,
+fn atom_truth(atom: u8, rest: &PartialPlan) -> Option<bool>
+    ensures { (m : Meaning) → Tells m rest.now (Some (Literal.Atom atom)) result }
+{
+    rest.status(atom).truth()
 }
 
-// An unused place of a body asks nothing, so it is true.
-pub(crate) fn truth_of<O: Oracle>(place: Option<Literal>, oracle: &O, rest: &PartialPlan) -> Truth
-    ensures { Tells (O.Oracle.meaning oracle.now) rest.now place result }
-{
-    let Some(literal) = place else {
-        return Truth::True;
-    };
-    match literal {
-        Literal::Atom(a) => match rest.status(a) {
-            Status::In => Truth::True,
-            Status::Out => Truth::False,
-            Status::Open => Truth::Unsure,
-        },
-        Literal::NotAtom(a) => match rest.status(a) {
-            Status::In => Truth::False,
-            Status::Out => Truth::True,
-            Status::Open => Truth::Unsure,
-        },
-        Literal::Source(s) => match oracle.consult(s as usize, rest) {
-            Reply::Yes => Truth::True,
-            Reply::No => Truth::False,
-            Reply::Open => Truth::Unsure,
-            Reply::NoSource => Truth::Unsure,
-        },
-        Literal::NotSource(s) => match oracle.consult(s as usize, rest) {
-            Reply::Yes => Truth::False,
-            Reply::No => Truth::True,
-            Reply::Open => Truth::Unsure,
-            Reply::NoSource => Truth::Unsure,
-        },
+// An oracle, and the partial plan that it is asked of.
+#[derive(Drop)]
+pub(crate) struct View<'a, O> {
+    pub(crate) oracle: &'a O,
+    pub(crate) plan: &'a PartialPlan,
+}
+
+impl<O: Oracle> View<'_, O> {
+    fn source_truth(&self, number: u8) -> Option<bool>
+        ensures { Tells (O.Oracle.meaning self.now.oracle.now) self.now.plan.now (Some (Literal.Source number)) result }
+    {
+        match self.oracle.consult(number as usize, self.plan) {
+            Reply::Yes => Some(true),
+            Reply::No => Some(false),
+            Reply::Open | Reply::NoSource => None,
+        }
+    }
+
+    // The truth of a place of a body. An unused place asks nothing, so it is true.
+    pub(crate) fn truth(&self, place: Option<Literal>) -> Option<bool>
+        ensures { Tells (O.Oracle.meaning self.now.oracle.now) self.now.plan.now place result }
+    {
+        match place {
+            None => Some(true),
+            Some(Literal::Atom(a)) => atom_truth(a, self.plan),
+            Some(Literal::NotAtom(a)) => atom_truth(a, self.plan).map(|truth| !truth),
+            Some(Literal::Source(s)) => self.source_truth(s),
+            Some(Literal::NotSource(s)) => self.source_truth(s).map(|truth| !truth),
+        }
     }
 }

@@ -4,37 +4,33 @@ ghost use Rattle.judge.specs.CallFaults.{call_name};
 
 use records::{Layer, Named};
 
-#[derive(Clone, Copy)]
+// The project's fixed form of an answer: the set itself stands in the caller's place.
+#[derive(Clone, Copy, Debug, PartialEq, Eq)]
 pub enum Verdict {
     Stands,
     // The number of the lowest broken rule.
     Broken(usize),
-    // The earliest unfounded set stands in the caller's place.
+    // The place has the earliest unfounded set.
     Unfounded,
 }
 
-#[derive(Clone, Copy)]
+#[derive(Clone, Copy, Debug, PartialEq, Eq)]
 pub enum CallFault {
     // The place for the set is not 32 bytes long.
-    Place,
+    Place = 1,
     // A rule names a source that the oracle does not have.
-    UnknownSource,
+    UnknownSource = 10,
     // More atoms are in than are searched.
-    Crowded,
+    Crowded = 25,
 }
 
 impl CallFault {
     pub fn named(self) -> Named
         ensures { result ≡ call_name self }
     {
-        let number = match self {
-            CallFault::Place => 1,
-            CallFault::UnknownSource => 10,
-            CallFault::Crowded => 25,
-        };
         Named {
             layer: Layer::Call,
-            number,
+            number: self as usize,
             byte: 0,
         }
     }

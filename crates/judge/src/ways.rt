@@ -2,12 +2,13 @@
 ghost use Rattle.std.specs.Prelude.{◌≡◌};
 ghost use Rattle.judge.specs.Ways.{Asks, Sat, Known, ways_and, way_to_fail, is_several};
 
-use crate::truth::{Truth, truth_of};
+use crate::truth::View;
 use oracles::Oracle;
-use plans::{PartialPlan, Status};
+use plans::Status;
 use records::{Literal, RuleRow};
 
-// The ways left to satisfy a rule: none, one atom to keep or to remove, or several.
+// The ways left to satisfy a rule: none, one atom to keep or to remove, or several. No option of an atom: one to keep is not
+// one to remove, and none left ends a search where several go on with it.
 #[derive(Clone, Copy)]
 pub(crate) enum Ways {
     NoWay,
@@ -22,27 +23,17 @@ impl Ways {
         ensures { result ≡ ways_and self more }
     {
         match (self, more) {
-            (Ways::NoWay, x) => x,
-            (x, Ways::NoWay) => x,
-            (Ways::Keep(a), Ways::Keep(b)) => { if a == b { Ways::Keep(a) } else { Ways::Several } }
-            (Ways::Remove(a), Ways::Remove(b)) => {
-                if a == b {
-                    Ways::Remove(a)
-                } else {
-                    Ways::Several
-                }
-            }
+            (Ways::NoWay, x) | (x, Ways::NoWay) => x,
+            (Ways::Keep(a), Ways::Keep(b)) if a == b => self,
+            (Ways::Remove(a), Ways::Remove(b)) if a == b => self,
             _ => Ways::Several,
         }
     }
 
-    fn is_several(self) -> bool
+    pub(crate) fn is_several(self) -> bool
         ensures { result ≡ is_several self }
     {
-        match self {
-            Ways::Several => true,
-            _ => false,
-        }
+        matches!(self, Ways::Several)
     }
 }
 
@@ -57,29 +48,31 @@ fn way_to_fail(place: Option<Literal>) -> Ways
     }
 }
 
-// A rule is satisfied by a head atom that is kept or a literal that is false.
-pub(crate) fn ways_of<O: Oracle>(row: &RuleRow, oracle: &O, rest: &PartialPlan) -> Ways
-    ensures { Asks rest.now (Sat (O.Oracle.meaning oracle.now) row.now) (Known (O.Oracle.meaning oracle.now) row.now.body) result }
-{
-    let mut left = Ways::NoWay;
-    let head: &[u8] = &row.head;
-    for a in head {
-        match rest.status(*a) {
-            Status::In => return Ways::Several,
-            Status::Out => {}
-            Status::Open => left = left.and(Ways::Keep(*a)),
+impl<O: Oracle> View<'_, O> {
+    // A rule is satisfied by a head atom that is kept or a literal that is false.
+    pub(crate) fn ways(&self, row: &RuleRow) -> Ways
+        ensures { Asks self.now.plan.now (Sat (O.Oracle.meaning self.now.oracle.now) row.now) (Known (O.Oracle.meaning self.now.oracle.now) row.now.body) result }
+    {
+        let mut left = Ways::NoWay;
+        let head: &[u8] = &row.head;
+        for a in head {
+            match self.plan.status(*a) {
+                Status::In => return Ways::Several,
+                Status::Out => {}
+                Status::Open => left = left.and(Ways::Keep(*a)),
+            }
         }
+        let body: &[Option<Literal>] = &row.body;
+        for t in body {
+            if left.is_several() {
+                return Ways::Several;
+            }
+            match self.truth(*t) {
+                Some(false) => return Ways::Several,
+                Some(true) => {}
+                None => left = left.and(way_to_fail(*t)),
+            }
+        }
+        left
     }
-    let body: &[Option<Literal>] = &row.body;
-    for t in body {
-        if left.is_several() {
-            return Ways::Several;
-        }
-        match truth_of(*t, oracle, rest) {
-            Truth::False => return Ways::Several,
-            Truth::True => {}
-            Truth::Unsure => left = left.and(way_to_fail(*t)),
-        }
-    }
-    left
 }

@@ -1,4 +1,3 @@
 pub mod Said
 pub mod Padded
-pub mod Written
 pub mod Reports

@@ -3,9 +3,16 @@ ghost use Rattle.std.specs.Prelude.{◌≡◌, ◌<◌, ◌≤◌, length, Match
 ghost use Rattle.plans.specs.Bits.{marked};
 ghost use Rattle.lines.specs.Said.{members};
 
-use plans::bit_in;
+use plans::is_marked;
 
-#[derive(Clone, Copy)]
+fn count(bits: &[u8; 32]) -> usize
+    ensures { result ≡ length (members (marked bits.now)) }
+{
+    (0..255u8).filter(|atom| is_marked(bits, *atom)).count()
+}
+
+// Apart from `AtomSet`, since bit 255 may be set here.
+#[derive(Clone, Copy, Debug, PartialEq, Eq)]
 pub struct FewAtoms {
     bits: [u8; 32],
     ghost few: { length (members (marked bits)) ≤ 24 },
@@ -16,22 +23,15 @@ impl FewAtoms {
     pub fn new(bits: [u8; 32]) -> Option<FewAtoms>
         ensures { MatchOption result (24 < length (members (marked bits))) (λ s. (length (members (marked bits)) ≤ 24) × (s.bits ≡ bits)) }
     {
-        let mut count = 0usize;
-        for atom in 0..255u8 {
-            if bit_in(&bits, atom) {
-                count += 1;
-            }
-        }
-        if count > 24 {
+        if count(&bits) > 24 {
             return None;
         }
         Some(FewAtoms { bits })
     }
 
-    // What is no atom is not in.
     pub fn contains(&self, atom: u8) -> bool
         ensures { result ≡ marked self.now.bits atom }
     {
-        atom < 255 && bit_in(&self.bits, atom)
+        is_marked(&self.bits, atom)
     }
 }

@@ -5,8 +5,8 @@
 pub mod report;
 // At most 24 atoms, so that their line fits.
 pub mod few_atoms;
-// A line under way in the caller's place.
-mod cursor;
+// A line under way, word by word.
+mod words;
 // A report as a line.
 pub mod line;
 // A plan judged, as a line.
@@ -15,4 +15,4 @@ pub mod plan_line;
 pub use few_atoms::FewAtoms;
 pub use line::write_line;
 pub use plan_line::write_plan_line;
-pub use report::{File, Report};
+pub use report::{File, Outcome, Report};

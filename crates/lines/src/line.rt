@@ -1,87 +1,72 @@
 // A report as a line in a place of 160 bytes.
-ghost use Rattle.std.specs.Prelude.{◌≡◌, ◌≤◌, [], ◌++◌, map, length, decimal};
+ghost use Rattle.std.specs.Prelude.{◌≡◌, ◌<◌, ◌≤◌, ◌++◌, map, length, decimal};
 ghost use Rattle.std.specs.List.{flat_map};
 ghost use Rattle.plans.specs.Bits.{marked};
 ghost use Rattle.lines.specs.Padded.{Answered};
 ghost use Rattle.lines.specs.Reports.{said};
-ghost use Rattle.lines.specs.Said.{file_name, line_bytes, members, spaced};
-ghost use Rattle.lines.specs.Written.{written};
+ghost use Rattle.lines.specs.Said.{fields, line_bytes, members, parted, spaced, bad_file};
+ghost use Rattle.lines.specs.declared.report.Report.TheVariants.{Plan};
 
-use crate::cursor::Cursor;
-use crate::cursor::writes::start;
 use crate::few_atoms::FewAtoms;
-use crate::report::{File, Report};
+use crate::report::{File, Outcome, Report};
+use crate::words::Line;
+use arrayvec::ArrayString;
 use judge::CallFault;
+use records::Named;
 
-fn name(file: File) -> &'static str
-    ensures value { result.now ≡ file_name file }
-    ensures bound { length result.now ≤ 5 }
+fn write_atoms(line: &mut Line, atoms: &FewAtoms)
+    requires { length line.old.text.bytes ≤ 40 }
+    ensures { line.new.text.bytes ≡ line.old.text.bytes ++ flat_map spaced (map decimal (members (marked atoms.now.bits))) }
 {
-    match file {
-        File::House => "house",
-        File::Site => "site",
+    for atom in (0..255u8).filter(|atom| atoms.contains(*atom)) {
+        line.number(atom);
     }
 }
 
-fn write_atoms(line: &mut Cursor<'_>, atoms: &FewAtoms)
-    requires { length (written line.old) ≤ 40 }
-    ensures bytes { written line.new ≡ written line.old ++ flat_map spaced (map decimal (members (marked atoms.now.bits))) }
-    ensures bound { length (written line.new) ≤ 150 }
-    ensures same { line.new.place.ghost_name ≡ line.old.place.ghost_name }
+fn plan_line(label: u32, outcome: &Outcome) -> Line
+    ensures { result.text.bytes ≡ parted (fields (said (Plan label outcome.now))) }
 {
-    for atom in 0..255u8 {
-        if atoms.contains(atom) {
-            line.push(b' ');
-            line.number(u64::from(atom));
+    let mut line = Line::new("plan");
+    line.number(label);
+    match outcome {
+        Outcome::Stands => line.word("stands"),
+        Outcome::Breaks { rule } => {
+            line.word("breaks");
+            line.number(*rule);
+        }
+        Outcome::Circle(atoms) => {
+            line.word("circle");
+            write_atoms(&mut line, atoms);
+        }
+        Outcome::Refused(named) => {
+            line.word("refused");
+            line.number(named.number);
         }
     }
+    line
 }
 
-fn write_report(line: &mut Cursor<'_>, report: &Report)
-    requires { written line.old ≡ [] }
-    ensures bytes { written line.new ≡ line_bytes (said report.now) }
-    ensures same { line.new.place.ghost_name ≡ line.old.place.ghost_name }
+fn bad_file_line(file: File, place: usize, named: Named) -> Line
+    ensures { result.text.bytes ≡ parted (fields (bad_file file named.number place named.byte)) }
 {
-    match report {
-        Report::Stands { label } => {
-            line.text("plan ");
-            line.number(u64::from(*label));
-            line.text(" stands");
-        }
-        Report::Breaks { label, rule } => {
-            line.text("plan ");
-            line.number(u64::from(*label));
-            line.text(" breaks ");
-            line.number(u64::from(*rule));
-        }
-        Report::Circle { label, atoms } => {
-            line.text("plan ");
-            line.number(u64::from(*label));
-            line.text(" circle");
-            write_atoms(line, atoms);
-        }
-        Report::Refused { label, number } => {
-            line.text("plan ");
-            line.number(u64::from(*label));
-            line.text(" refused ");
-            line.number(*number as u64);
-        }
-        Report::BadFile {
-            file,
-            number,
-            place,
-            byte,
-        } => {
-            line.text(name(*file));
-            line.text(" refused ");
-            line.number(*number as u64);
-            line.text(" record ");
-            line.number(*place as u64);
-            line.text(" byte ");
-            line.number(*byte as u64);
-        }
-    }
-    line.push(b'\n');
+    let mut line = Line::new(file.name());
+    line.word("refused");
+    line.number(named.number);
+    line.word("record");
+    line.number(place);
+    line.word("byte");
+    line.number(named.byte);
+    line
+}
+
+fn line_of(report: &Report) -> ArrayString<160>
+    ensures { result.bytes ≡ line_bytes (said report.now) }
+{
+    let line = match report {
+        Report::Plan { label, outcome } => plan_line(*label, outcome),
+        Report::BadFile { file, place, named } => bad_file_line(*file, *place, *named),
+    };
+    line.ended()
 }
 
 // The line of a report, with zeros after it; its length, the last byte counted.
@@ -91,7 +76,8 @@ pub fn write_line(report: &Report, place: &mut [u8]) -> Result<usize, CallFault>
     if place.len() != 160 {
         return Err(CallFault::Place);
     }
-    let mut line = start(place);
-    write_report(&mut line, report);
+    let line = line_of(report);
+    place.fill(0);
+    place[..line.len()].copy_from_slice(line.as_bytes());
     Ok(line.len())
 }

@@ -9,7 +9,7 @@ ghost use Rattle.lines.specs.Said.{said_of, line_bytes};
 
 use crate::few_atoms::FewAtoms;
 use crate::line::write_line;
-use crate::report::Report;
+use crate::report::{Outcome, Report};
 use judge::{CallFault, Verdict, check};
 use oracles::Oracle;
 use records::Plan;
@@ -19,28 +19,26 @@ use rulebook::Rulebook;
 fn report_of<O: Oracle>(book: &Rulebook, oracle: &O, plan: &Plan) -> Report
     ensures { said result ≡ said_of plan.now.label (rules_of book.now.rows.items) (checked (rules_of book.now.rows.items) (O.Oracle.meaning oracle.now) (marked plan.now.marks.bytes)) }
 {
-    let label = plan.label;
     let mut set = [0u8; 32];
-    match check(book, oracle, &plan.marks, &mut set) {
-        Err(fault) => Report::Refused {
-            label,
-            number: fault.named().number,
+    let outcome = match check(book, oracle, &plan.marks, &mut set) {
+        Err(fault) => Outcome::Refused(fault.named()),
+        Ok(Verdict::Stands) => Outcome::Stands,
+        Ok(Verdict::Broken(n)) => Outcome::Breaks {
+            rule: book.label(n).unwrap_or(0),
         },
-        Ok(verdict) => match verdict {
-            Verdict::Stands => Report::Stands { label },
-            Verdict::Broken(n) => Report::Breaks {
-                label,
-                rule: book.label(n).unwrap_or(0),
-            },
-            Verdict::Unfounded => match FewAtoms::new(set) {
-                Some(atoms) => Report::Circle { label, atoms },
-                None => unreachable(),
-            },
+        Ok(Verdict::Unfounded) => match FewAtoms::new(set) {
+            Some(atoms) => Outcome::Circle(atoms),
+            None => unreachable!(),
         },
+    };
+    Report::Plan {
+        label: plan.label,
+        outcome,
     }
 }
 
-// Judges the plan and writes its line, with zeros after it; the line's length, the last byte counted.
+// Judges the plan and writes its line, with zeros after it; the line's length, the last byte counted. Book and oracle come apart,
+// as `check` takes them.
 pub fn write_plan_line<O: Oracle>(
     book: &Rulebook,
     oracle: &O,

@@ -1,5 +1,9 @@
 // What is said of a plan or of a bad file.
+ghost use Rattle.std.specs.Prelude.{◌≡◌, ◌≤◌, length};
+ghost use Rattle.lines.specs.Said.{file_name};
+
 use crate::few_atoms::FewAtoms;
+use records::Named;
 
 #[derive(Clone, Copy, Debug, PartialEq, Eq)]
 pub enum File {
@@ -7,28 +11,38 @@ pub enum File {
     Site,
 }
 
-// Plans and rules go by their labels.
-#[derive(Clone, Copy)]
+impl File {
+    // A text and no `Display`, since a writer may fail and a line may not.
+    pub(crate) fn name(self) -> &'static str
+        ensures value { result.now ≡ file_name self }
+        ensures bound { length result.now ≤ 5 }
+    {
+        match self {
+            File::House => "house",
+            File::Site => "site",
+        }
+    }
+}
+
+// What a check says of a plan. Rules go by their labels.
+#[derive(Clone, Copy, Debug, PartialEq, Eq)]
+pub enum Outcome {
+    Stands,
+    Breaks { rule: u32 },
+    Circle(FewAtoms),
+    Refused(Named),
+}
+
+// Plans go by their labels, the records of a file by their places.
+#[derive(Clone, Copy, Debug, PartialEq, Eq)]
 pub enum Report {
-    Stands {
+    Plan {
         label: u32,
-    },
-    Breaks {
-        label: u32,
-        rule: u32,
-    },
-    Circle {
-        label: u32,
-        atoms: FewAtoms,
-    },
-    Refused {
-        label: u32,
-        number: usize,
+        outcome: Outcome,
     },
     BadFile {
         file: File,
-        number: usize,
         place: usize,
-        byte: usize,
+        named: Named,
     },
 }

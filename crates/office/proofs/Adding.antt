@@ -1,6 +1,10 @@
 -- A run of rule records added one by one. Assumes nothing.
-use Rattle.std.proofs.Common.{◌≡◌, ℕ, ◌+◌, ◌*◌, List, [], ◌∷◌, ◌++◌, map, length, take, drop, sym, refl, ap, ◌∙◌, subst, arith}
+use Rattle.std.proofs.Common.{◌≡◌, ℕ, ◌+◌, ◌*◌, Result, Ok, Err, is_ok, true, false, List, [], ◌∷◌, ◌++◌, map, length, take, drop, sym, refl, ap, ◌∙◌, subst, arith}
+use Rattle.std.proofs.lemmas.Grind.{flat_map-append}
 use Rattle.std.proofs.lemmas.List.{append_assoc, map-append, map_push, take_all}
+use Rattle.std.proofs.lemmas.Bool.{both_ways}
+use Rattle.rulebook.specs.Books.{Added}
+use Rattle.rulebook.specs.declared.book_fault.BookFault.{BookFault}
 use Rattle.std.specs.List.{flat_map}
 use Rattle.records.specs.Rows.{row_of}
 use Rattle.records.specs.Rules.{rule_image}
@@ -21,14 +25,15 @@ added_more run before mid after k n long h v image is =
 pub added_all : (run : List ℕ) (before after : List RuleRow) (k : ℕ) → length run ≡ 48 * k → AddedRun (take (48 * k) run) before after → AddedRun run before after
 added_all run before after k e h = subst (λ (r : List ℕ). AddedRun r before after) (take_all (48 * k) run (omega arith)) h
 
-joined_both : (xs ys : List Rule) → flat_map rule_image (xs ++ ys) ≡ flat_map rule_image xs ++ flat_map rule_image ys
-joined_both [] ys = refl
-joined_both (x ∷ xs) ys = ap (λ (l : List ℕ). rule_image x ++ l) (joined_both xs ys) ∙ sym (append_assoc (rule_image x) (flat_map rule_image xs) (flat_map rule_image ys))
-
 pub added_both : (one two : List ℕ) (before mid after : List RuleRow) → AddedRun one before mid → AddedRun two mid after → AddedRun (one ++ two) before after
 added_both one two before mid after h k =
     record {
       rules = h.rules ++ k.rules;
-      images = joined_both h.rules k.rules ∙ ap (λ (l : List ℕ). l ++ flat_map rule_image k.rules) h.images ∙ ap (λ (l : List ℕ). one ++ l) k.images;
+      images = flat_map-append rule_image h.rules k.rules ∙ ap (λ (l : List ℕ). l ++ flat_map rule_image k.rules) h.images ∙ ap (λ (l : List ℕ). one ++ l) k.images;
       rows = k.rows ∙ ap (λ (rows : List RuleRow). rows ++ map row_of k.rules) h.rows ∙ append_assoc before (map row_of h.rules) (map row_of k.rules) ∙ ap (λ (rows : List RuleRow). before ++ rows) (sym (map-append row_of h.rules k.rules));
     }
+
+-- a record that was taken
+pub taken : (bs : List ℕ) (before after : List RuleRow) (r : Result (Unit {0}) BookFault) → is_ok r ≡ true → Added bs before after r → (v : Rule) × (rule_image v ≡ bs) × (after ≡ before ++ row_of v ∷ [])
+taken bs before after (Ok u) e h = h.1
+taken bs before after (Err x) e h = absurd (both_ways false refl e)

@@ -1,3 +1,4 @@
+mod Output
 mod Walking
 mod Adding
 mod Opening

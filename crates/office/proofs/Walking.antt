@@ -1,6 +1,10 @@
 -- A walk through a file, one record more. Assumes nothing.
-use Rattle.std.proofs.Common.{◌≡◌, ℕ, zero, suc, ◌+◌, ◌-◌, ◌*◌, ◌<◌, Bool, true, false, cond, List, take, drop, Some, None, Ok, Err, Option, Result, sym, refl, ap, ◌∙◌, arith}
+use Rattle.std.proofs.Common.{◌≡◌, ℕ, zero, suc, ◌+◌, ◌-◌, ◌*◌, ◌<◌, Bool, true, false, cond, List, take, drop, Some, None, Ok, Err, Option, Result, MatchResult, IsErrAnd, sym, refl, ap, ◌∙◌, arith}
 use Rattle.std.proofs.lemmas.List.{drop-drop}
+use Rattle.std.proofs.lemmas.Result.{err_from_is_err_and}
+use Rattle.office.specs.Sections.{counts_of, counted}
+use Rattle.office.specs.declared.sections.Sections.{Sections}
+use Rattle.office.specs.declared.file_fault.FileFault.{FileFault}
 use Rattle.sources.specs.Judged.{kind_of}
 use Rattle.sources.specs.declared.kind.Kind.{Kind}
 use Rattle.sources.specs.declared.kind.Kind.TheVariants.{Table, Sum, Week, Rule, Plan}
@@ -81,3 +85,21 @@ module _ (f : File) (b c : Counts) (k : Kind) (ordered : in_order f c k ≡ true
       go : (o : Option Cause) → ◌≡◌ {A = Result (Unit {0}) Cause} (Err x) (unless o tt) → unless o (one_more c k) ≡ Err x
       go None h = absurd (let z : ◌≡◌ {A = ℕ} 0 1 = cc in omega arith)
       go (Some y) h = let e : x ≡ y = cc in ap Err (sym e)
+
+-- what a result is, once its cause has the record's place
+abbrev pub filed : ℕ → Result Sections Cause → Result Sections FileFault
+filed k (Ok s) = Ok s
+filed k (Err x) = Err (Record k x)
+
+pub filed_is : {Q : Cause → FileFault → Type 0} (k : ℕ) (r : Result Sections Cause) (d : Result Sections FileFault) → MatchResult r (λ s. d ≡ Ok s) (λ x. IsErrAnd d (Q x))
+    → ((x : Cause) (f : FileFault) → Q x f → f ≡ Record k x) → d ≡ filed k r
+filed_is k (Ok s) d m q = m
+filed_is k (Err x) d m q = let p = err_from_is_err_and d m in p.1 ∙ ap (λ (f : FileFault). Err f) (q x p.0 p.2)
+
+pub filed_ok : (k : ℕ) (r : Result Sections Cause) (d : Result Sections FileFault) (s : Sections) (answer : Result Counts Cause) → d ≡ filed k r → d ≡ Ok s → counted r ≡ answer → Ok (counts_of s) ≡ answer
+filed_ok k (Ok x) d s answer is was h = let same : x ≡ s = cc in ap (λ (t : Sections). Ok (counts_of t)) (sym same) ∙ h
+filed_ok k (Err x) d s answer is was h = let z : ◌≡◌ {A = ℕ} 0 1 = cc in absurd (omega arith)
+
+pub filed_err : (k : ℕ) (r : Result Sections Cause) (d : Result Sections FileFault) (f : FileFault) (answer : Result Counts Cause) → d ≡ filed k r → d ≡ Err f → counted r ≡ answer → (x : Cause) × (f ≡ Record k x) × (◌≡◌ {A = Result Counts Cause} (Err x) answer)
+filed_err k (Ok x) d f answer is was h = let z : ◌≡◌ {A = ℕ} 0 1 = cc in absurd (omega arith)
+filed_err k (Err x) d f answer is was h = let same : f ≡ Record k x = cc in (x, same, h)

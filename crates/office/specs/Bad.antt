@@ -17,9 +17,9 @@ use Rattle.office.specs.Walk.{Counts, none, file_read}
 abbrev pub Refusal : Type 0
 Refusal = OfficeFault
 
-abbrev pub in_file : {A : Type 0} → File → Result A FileFault → Result A OfficeFault
-in_file f (Ok x) = Ok x
-in_file f (Err e) = Err (Bad f e)
+-- the fault of a file
+abbrev pub in_file : File → FileFault → OfficeFault
+in_file f e = Bad f e
 
 -- the fault of a run of one kind, and of a rule at a place of its run
 abbrev pub of_run : File → RunFault → OfficeFault

@@ -5,3 +5,4 @@ pub mod Runs
 pub mod Bad
 pub mod Added
 pub mod Held
+pub mod Printed

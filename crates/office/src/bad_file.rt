@@ -15,12 +15,10 @@ pub fn write_bad_file_line(
 ) -> Result<usize, CallFault>
     ensures { Answered (line_bytes (bad_file file (fault_name fault).number (place_of fault) (fault_name fault).byte)) place.old result place.new }
 {
-    let named = fault.named();
     let report = Report::BadFile {
         file,
-        number: named.number,
         place: fault.place(),
-        byte: named.byte,
+        named: fault.named(),
     };
     write_line(&report, place)
 }

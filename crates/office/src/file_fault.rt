@@ -6,7 +6,7 @@ ghost use Rattle.office.specs.declared.file_fault.Cause.TheVariants.{Record};
 use records::{Layer, Named, RecordFault};
 
 // What is wrong with one record of a file.
-#[derive(Clone, Copy)]
+#[derive(Clone, Copy, Debug, PartialEq, Eq)]
 pub enum Cause {
     // By its own kind's rules.
     Record(RecordFault),
@@ -18,7 +18,7 @@ pub enum Cause {
     Rules,
 }
 
-#[derive(Clone, Copy)]
+#[derive(Clone, Copy, Debug, PartialEq, Eq)]
 pub enum FileFault {
     // Not whole records, or more than 512.
     Run,

@@ -21,8 +21,15 @@ mod reading;
 // The line of a bad file.
 pub mod bad_file;
 
+// Why the lines of an office are not printed.
+pub mod unprinted;
+// The lines of an office, written to any writer.
+pub mod printing;
+
 pub use bad_file::write_bad_file_line;
 pub use file_fault::{Cause, FileFault};
 pub use office::Office;
 pub use office_fault::OfficeFault;
+pub use printing::print_judgement;
 pub use sections::Sections;
+pub use unprinted::Unprinted;

@@ -7,20 +7,17 @@ use lines::File;
 use records::RunFault;
 use rulebook::BookFault;
 
-#[derive(Clone, Copy)]
+#[derive(Clone, Copy, Debug, PartialEq, Eq)]
 pub enum OfficeFault {
     Memory,
     Bad { file: File, fault: FileFault },
 }
 
-// Names the file that a result is of.
-pub(crate) fn in_file<T>(r: Result<T, FileFault>, file: File) -> Result<T, OfficeFault>
-    ensures { result ≡ in_file file r }
+// Names the file that a fault is of. No `From`: what a fault becomes here depends on the file, and on the record's place.
+pub(crate) fn in_file(fault: FileFault, file: File) -> OfficeFault
+    ensures { result ≡ in_file file fault }
 {
-    match r {
-        Ok(x) => Ok(x),
-        Err(fault) => Err(OfficeFault::Bad { file, fault }),
-    }
+    OfficeFault::Bad { file, fault }
 }
 
 // A run of a file that was found good can still want memory.
@@ -43,25 +40,17 @@ pub(crate) fn of_run(fault: RunFault, file: File) -> OfficeFault
     }
 }
 
-// So can a rule of it.
+// A rule of a file that was found good can still want memory.
 pub(crate) fn of_book(fault: BookFault, file: File, place: usize) -> OfficeFault
     ensures { result ≡ of_book file place fault }
 {
-    match fault {
-        BookFault::Memory => OfficeFault::Memory,
-        BookFault::Record(e) => OfficeFault::Bad {
-            file,
-            fault: FileFault::Record {
-                place,
-                cause: Cause::Record(e),
-            },
-        },
-        BookFault::Full => OfficeFault::Bad {
-            file,
-            fault: FileFault::Record {
-                place,
-                cause: Cause::Rules,
-            },
-        },
+    let cause = match fault {
+        BookFault::Memory => return OfficeFault::Memory,
+        BookFault::Record(e) => Cause::Record(e),
+        BookFault::Full => Cause::Rules,
+    };
+    OfficeFault::Bad {
+        file,
+        fault: FileFault::Record { place, cause },
     }
 }

@@ -2,6 +2,7 @@
 ghost use Rattle.std.specs.Prelude.{◌≡◌, ℕ, IfOk, Some, Err};
 ghost use Rattle.std.specs.List.{flat_map};
 ghost use Rattle.office.specs.Bad.{bad_office, Refusal};
+ghost use Rattle.office.specs.Runs.{parts_of};
 ghost use Rattle.office.specs.Held.{SourcesHeld, Built, OfficeHeld};
 
 use crate::office::{FileOracle, Office};
@@ -28,23 +29,16 @@ where
     K::Decoded: Drop,
     ensures { IfOk result (λ v. flat_map K.image v.items ≡ run.now) }
 {
-    match read_run::<K>(heap, run) {
-        Ok(values) => Ok(values),
-        Err(fault) => Err(of_run(fault, file)),
-    }
+    read_run::<K>(heap, run).map_err(|fault| of_run(fault, file))
 }
 
 // The sources of one file.
-pub(crate) fn file_oracle(
-    heap: Global,
-    runs: &Runs<'_>,
-    file: File,
-) -> Result<FileOracle, OfficeFault>
-    ensures { IfOk result (λ o. SourcesHeld o runs.now.tables.now runs.now.sums.now runs.now.weeks.now) }
+pub(crate) fn file_oracle(heap: Global, runs: &Runs<'_>) -> Result<FileOracle, OfficeFault>
+    ensures { IfOk result (λ o. SourcesHeld o (parts_of runs.now)) }
 {
-    let tables = read_records::<TableRecord>(heap, runs.tables, file)?;
-    let sums = read_records::<SumRecord>(heap, runs.sums, file)?;
-    let weeks = read_records::<WeekRecord>(heap, runs.weeks, file)?;
+    let tables = read_records::<TableRecord>(heap, runs.tables, runs.file)?;
+    let sums = read_records::<SumRecord>(heap, runs.sums, runs.file)?;
+    let weeks = read_records::<WeekRecord>(heap, runs.weeks, runs.file)?;
     Ok(Joined {
         first: TableOracle::new(tables),
         second: Joined {
@@ -55,14 +49,14 @@ pub(crate) fn file_oracle(
 }
 
 fn build(heap: Global, house: &Runs<'_>, site: &Runs<'_>) -> Result<Office, OfficeFault>
-    ensures { IfOk result (λ o. Built house.now.tables.now house.now.sums.now house.now.weeks.now house.now.rules.now site.now.tables.now site.now.sums.now site.now.weeks.now site.now.rules.now site.now.plans.now o) }
+    ensures { IfOk result (λ o. Built (parts_of house.now) (parts_of site.now) o) }
 {
     let mut book = Rulebook::new(heap);
-    add_rules(&mut book, house.rules, File::House)?;
-    add_rules(&mut book, site.rules, File::Site)?;
-    let first = file_oracle(heap, house, File::House)?;
-    let second = file_oracle(heap, site, File::Site)?;
-    let plans = read_records::<PlanRecord>(heap, site.plans, File::Site)?;
+    add_rules(&mut book, house)?;
+    add_rules(&mut book, site)?;
+    let first = file_oracle(heap, house)?;
+    let second = file_oracle(heap, site)?;
+    let plans = read_records::<PlanRecord>(heap, site.plans, site.file)?;
     Ok(Office {
         book,
         oracle: Joined { first, second },
@@ -77,8 +71,18 @@ impl Office {
         ensures held { IfOk result (λ o. OfficeHeld house.now site.now o) }
     {
         let before = Sections::none();
-        let first = in_file(read_sections(File::House, &before, house), File::House)?;
-        let second = in_file(read_sections(File::Site, &first, site), File::Site)?;
-        build(heap, &runs_of(&first, house), &runs_of(&second, site))
+        let first = read_sections(File::House, &before, house).map_err(|fault| in_file(
+            fault,
+            File::House,
+        ))?;
+        let second = read_sections(File::Site, &first, site).map_err(|fault| in_file(
+            fault,
+            File::Site,
+        ))?;
+        build(
+            heap,
+            &runs_of(File::House, &first, house),
+            &runs_of(File::Site, &second, site),
+        )
     }
 }

@@ -8,6 +8,8 @@ ghost use Rattle.office.specs.Walk.{none, sources_in, total, in_order, no_room, 
 use crate::file_fault::{Cause, FileFault};
 use crate::sections::Sections;
 use lines::File;
+use records::fault::demand;
+use records::records_of;
 use sources::{Kind, check_record};
 
 impl Sections {
@@ -38,10 +40,7 @@ impl Sections {
             Kind::Sum => self.weeks + self.rules + self.plans == 0,
             Kind::Week => self.rules + self.plans == 0,
             Kind::Rule => self.plans == 0,
-            Kind::Plan => match file {
-                File::House => false,
-                File::Site => true,
-            },
+            Kind::Plan => file == File::Site,
         }
     }
 
@@ -51,19 +50,9 @@ impl Sections {
     {
         match kind {
             Kind::Plan => Ok(()),
-            Kind::Rule => {
-                if before.rules + self.rules < 256 {
-                    Ok(())
-                } else {
-                    Err(Cause::Rules)
-                }
-            }
+            Kind::Rule => demand(before.rules + self.rules < 256, Cause::Rules),
             Kind::Table | Kind::Sum | Kind::Week => {
-                if before.sources() + self.sources() < 64 {
-                    Ok(())
-                } else {
-                    Err(Cause::Sources)
-                }
+                demand(before.sources() + self.sources() < 64, Cause::Sources)
             }
         }
     }
@@ -89,13 +78,9 @@ impl Sections {
         ensures { counted result ≡ stepped file (counts_of before.now) (counts_of self.now) (kind_of bytes.now) }
     {
         let kind = check_record(bytes)?;
-        if !self.in_order(file, kind) {
-            return Err(Cause::Order);
-        }
-        match self.room(before, kind) {
-            Ok(()) => Ok(self.one_more(kind)),
-            Err(cause) => Err(cause),
-        }
+        demand(self.in_order(file, kind), Cause::Order)?;
+        self.room(before, kind)?;
+        Ok(self.one_more(kind))
     }
 }
 
@@ -104,17 +89,12 @@ pub fn read_sections(file: File, before: &Sections, bytes: &[u8]) -> Result<Sect
     ensures read { counted result ≡ file_read file (counts_of before.now) bytes.now }
     ensures whole { IfOk result (λ s. 48 * total (counts_of s) ≡ length bytes.now) }
 {
-    let count = bytes.len() / 48;
-    if bytes.len() % 48 != 0 || count > 512 {
-        return Err(FileFault::Run);
-    }
+    let records = records_of(bytes).ok_or(FileFault::Run)?;
     let mut sections = Sections::none();
-    for place in 0..count {
-        let start = 48 * place;
-        match sections.step(file, before, &bytes[start..start + 48]) {
-            Ok(next) => sections = next,
-            Err(cause) => return Err(FileFault::Record { place, cause }),
-        }
+    for (place, record) in records.iter().enumerate() {
+        sections = sections
+            .step(file, before, record)
+            .map_err(|cause| FileFault::Record { place, cause })?;
     }
     Ok(sections)
 }

@@ -2,9 +2,7 @@
 ghost use Rattle.oracles.specs.Clauses.{ClausesFollow, ClausesSuffice};
 
 // The clauses, one by one, say just what `Answers` says.
-pub fn clauses_stand() -> u8
+pub fn clauses_stand()
     ensures follow { ClausesFollow }
     ensures suffice { ClausesSuffice }
-{
-    0
-}
+{}

@@ -1,5 +1,6 @@
 -- Bits of a set, written and read. Assumes nothing.
-use Rattle.std.proofs.Common.{◌≡◌, ℕ, zero, suc, ◌+◌, ◌*◌, ◌/◌, ◌%◌, ◌^◌, ◌<◌, ◌≤◌, Bool, true, false, ◌&&◌, eqb, ltb, List, length, get_or, sym, refl, ap, ◌∙◌, subst, ⊎_elim, pow-suc, arith}
+use Rattle.std.proofs.Common.{◌≡◌, ℕ, zero, suc, ◌+◌, ◌*◌, ◌/◌, ◌%◌, ◌^◌, ◌<◌, ◌≤◌, Bool, true, false, ◌&&◌, eqb, ltb, List, length, get_or, sym, refl, ap, ◌∙◌, subst, ⊎_elim, pow-suc, pow_mono, arith}
+use mir.Val.{bool_byte}
 use mathlib.Core.Path.{fun_ext}
 use native.Mathlib.Nat.{pow-succ', div-div-eq-div-mul}
 use Rattle.std.proofs.lemmas.List.FromFn.{get_or-map-range_with_len, fill_by_all}
@@ -61,9 +62,20 @@ bits_read X a lt =
     ∙ ap X whole
 
 -- one bit more in front
-pub bits_more : (X : Interp) (a n : ℕ) → bits_from X a (n + 1) ≡ one (X a) + 2 * bits_from X (suc a) n
+bits_more : (X : Interp) (a n : ℕ) → bits_from X a (n + 1) ≡ one (X a) + 2 * bits_from X (suc a) n
 unfolding bits_from
 bits_more X a n = let s : n + 1 ≡ suc n = omega arith in ap (bits_from X a) s
+
+pub bits_after : (X : Interp) (a b m n : ℕ) → b ≡ suc a → m ≡ n + 1 → bits_from X a m ≡ one (X a) + 2 * bits_from X b n
+bits_after X a b m n next more = ap (bits_from X a) more ∙ bits_more X a n ∙ ap (λ (k : ℕ). one (X a) + 2 * bits_from X k n) (sym next)
+
+-- a byte holds eight of them
+pub bits_fit : (X : Interp) (a n : ℕ) → n ≤ 8 → bits_from X a n < 256
+bits_fit X a n le = let h = bits_small X a n in let m = pow_mono le in omega arith
+
+pub byte_one : (b : Bool) → bool_byte b ≡ one b
+byte_one true = refl
+byte_one false = refl
 
 pub bits_none : (X : Interp) (a : ℕ) → bits_from X a 0 ≡ 0
 unfolding bits_from

@@ -1,2 +1,3 @@
+pub mod FromFn
 pub mod Bits
 pub mod Partial

@@ -58,6 +58,12 @@ opened Out = Out
 abbrev pub Opens : PartialPlan → PartialPlan → Type 0
 Opens p q = (a : ℕ) → a < atom_limit → status_at q a ≡ opened (status_at p a)
 
+-- the truth of an atom, where the status settles it
+abbrev pub truth_of : Status → Option Bool
+truth_of Open = None
+truth_of In = Some true
+truth_of Out = Some false
+
 abbrev pub LowestOpen : PartialPlan → Option ℕ → Type 0
 LowestOpen p None = Decided p
 LowestOpen p (Some a) = Opened p a × ((c : ℕ) → c < a → status_at p c ≢ Open)

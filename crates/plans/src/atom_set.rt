@@ -9,6 +9,13 @@ pub fn bit_in(bytes: &[u8; 32], i: u8) -> bool
     (bytes[(i / 8) as usize] >> (i % 8)) % 2 == 1
 }
 
+// Whether an atom is in the set of these bits; what is no atom is not.
+pub fn is_marked(bytes: &[u8; 32], atom: u8) -> bool
+    ensures { result ≡ marked bytes.now atom }
+{
+    atom < 255 && bit_in(bytes, atom)
+}
+
 #[derive(Clone, Copy)]
 pub struct AtomSet {
     bytes: [u8; 32],
@@ -42,17 +49,14 @@ impl AtomSet {
         &self.bytes
     }
 
-    // What is no atom is not in.
     pub fn contains(&self, atom: u8) -> bool
         ensures { result ≡ marked self.now.bytes atom }
     {
-        atom < 255 && bit_in(&self.bytes, atom)
+        is_marked(&self.bytes, atom)
     }
 }
 
 // Each bit of a set that is written is read back as it was meant.
-pub fn bits_read() -> u8
+pub fn bits_read()
     ensures { BitsRead }
-{
-    0
-}
+{}

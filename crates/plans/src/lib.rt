@@ -8,5 +8,5 @@ pub mod partial_plan;
 // The atoms of a plan that do not stay, as a set.
 mod removal;
 
-pub use atom_set::{AtomSet, bit_in, bits_read};
+pub use atom_set::{AtomSet, bit_in, bits_read, is_marked};
 pub use partial_plan::{PartialPlan, Status};

@@ -3,16 +3,41 @@ ghost use Rattle.std.specs.Prelude.{◌≡◌, ℕ, ◌<◌, if◌then◌else◌
 ghost use Rattle.semantics.specs.Program.{atom_limit};
 ghost use Rattle.semantics.specs.Check.{size_below};
 ghost use Rattle.plans.specs.Bits.{marked, bytes_of};
-ghost use Rattle.plans.specs.Partial.{status_at, place_at, full, Decides, Opens, LowestOpen, removed};
+ghost use Rattle.plans.specs.Partial.{status_at, place_at, full, opened, Decides, truth_of, Opens, LowestOpen, removed};
 
 use crate::atom_set::AtomSet;
-use crate::removal::removed_bytes;
+use crate::removal::Removal;
+use std::array;
 
-#[derive(Clone, Copy)]
+// Three words of the subject: of an `Option<bool>` a reader would have to guess which atom is out.
+#[derive(Clone, Copy, Debug, PartialEq, Eq)]
 pub enum Status {
     Open,
     In,
     Out,
+}
+
+impl Status {
+    fn opened(self) -> Status
+        ensures { result ≡ opened self }
+    {
+        match self {
+            Status::Out => Status::Out,
+            Status::In => Status::Open,
+            Status::Open => Status::Open,
+        }
+    }
+
+    // Whether the atom is in, where that is settled.
+    pub fn truth(self) -> Option<bool>
+        ensures { result ≡ truth_of self }
+    {
+        match self {
+            Status::Open => None,
+            Status::In => Some(true),
+            Status::Out => Some(false),
+        }
+    }
 }
 
 #[derive(Clone, Copy)]
@@ -20,22 +45,30 @@ pub struct PartialPlan {
     marks: [Status; 255],
 }
 
-impl PartialPlan {
-    // The plan of a set: its atoms are in, all others out.
-    pub fn of(set: &AtomSet) -> PartialPlan
-        ensures { (a : ℕ) → a < atom_limit → status_at result a ≡ (if marked set.now.bytes a then Status.In else Status.Out) }
-    {
-        let mut marks = [Status::Open; 255];
-        for atom in 0..255u8 {
-            marks[atom as usize] = if set.contains(atom) {
-                Status::In
-            } else {
-                Status::Out
-            };
-        }
+fn status_in(set: &AtomSet, atom: usize) -> Status
+    requires { atom < atom_limit }
+    ensures { result ≡ (if marked set.now.bytes atom then Status.In else Status.Out) }
+{
+    if set.contains(atom as u8) {
+        Status::In
+    } else {
+        Status::Out
+    }
+}
+
+// The plan of a set: its atoms are in, all others out.
+impl From<&AtomSet> for PartialPlan {
+    ghost use Rattle.plans.specs.declared.partial_plan.Status.TheVariants.{In, Out};
+
+    ghost from_gives = { λ set plan. (a : ℕ) → a < atom_limit → status_at plan a ≡ (if marked set.now.bytes a then In else Out) };
+
+    fn from(set: &AtomSet) -> PartialPlan {
+        let marks = array::from_fn(|atom| status_in(set, atom));
         PartialPlan { marks }
     }
+}
 
+impl PartialPlan {
     // What is no atom is out.
     pub fn status(&self, atom: u8) -> Status
         ensures { result ≡ place_at self.now atom }
@@ -45,6 +78,14 @@ impl PartialPlan {
         } else {
             Status::Out
         }
+    }
+
+    // Whether an atom is in; what is no atom is not.
+    #[tactic(auto, using(crate::proofs::Partial::full_place))]
+    pub fn has(&self, atom: u8) -> bool
+        ensures { result ≡ full self.now atom }
+    {
+        self.status(atom) == Status::In
     }
 
     fn put(&mut self, atom: u8, status: Status)
@@ -70,49 +111,27 @@ impl PartialPlan {
     pub fn opened(&self) -> PartialPlan
         ensures { Opens self.now result }
     {
-        let mut marks = [Status::Out; 255];
-        for atom in 0..255u8 {
-            marks[atom as usize] = match self.status(atom) {
-                Status::Out => Status::Out,
-                Status::In => Status::Open,
-                Status::Open => Status::Open,
-            };
-        }
+        let marks = self.marks.map(|status| status.opened());
         PartialPlan { marks }
     }
 
     pub fn lowest_open(&self) -> Option<u8>
         ensures { LowestOpen self.now result }
     {
-        for atom in 0..255u8 {
-            match self.status(atom) {
-                Status::Open => return Some(atom),
-                Status::In => {}
-                Status::Out => {}
-            }
-        }
-        None
+        (0..255u8).find(|atom| self.status(*atom) == Status::Open)
     }
 
     // How many atoms are in.
     pub fn count_in(&self) -> usize
         ensures { result ≡ size_below atom_limit (full self.now) }
     {
-        let mut count = 0;
-        for atom in 0..255u8 {
-            match self.status(atom) {
-                Status::In => count += 1,
-                Status::Out => {}
-                Status::Open => {}
-            }
-        }
-        count
+        (0..255u8).filter(|atom| self.has(*atom)).count()
     }
 
     // The atoms that are in here and not in `stays`.
     pub fn removed(&self, stays: &PartialPlan) -> AtomSet
         ensures { result.bytes ≡ bytes_of (removed self.now stays.now) }
     {
-        removed_bytes(self, stays)
+        Removal { plan: self, stays }.set()
     }
 }

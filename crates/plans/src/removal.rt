@@ -1,38 +1,41 @@
-// The atoms of a plan that do not stay, byte by byte.
+// The atoms of a plan that do not stay, as plan bits.
 ghost use Rattle.std.specs.Prelude.{◌≡◌, ◌<◌};
-ghost use Rattle.plans.specs.Bits.{one, byte_of, bytes_of};
+ghost use Rattle.plans.specs.Bits.{byte_of, bytes_of};
 ghost use Rattle.plans.specs.Partial.{removed};
 
 use crate::atom_set::AtomSet;
-use crate::partial_plan::{PartialPlan, Status};
+use crate::partial_plan::PartialPlan;
+use std::array;
 
-fn removed_bit(plan: &PartialPlan, stays: &PartialPlan, atom: u8) -> u8
-    ensures { result ≡ one (removed plan.now stays.now atom) }
-{
-    match (plan.status(atom), stays.status(atom)) {
-        (Status::In, Status::In) => 0,
-        (Status::In, _) => 1,
-        _ => 0,
-    }
+#[derive(Clone, Copy)]
+pub(crate) struct Removal<'a> {
+    pub(crate) plan: &'a PartialPlan,
+    pub(crate) stays: &'a PartialPlan,
 }
 
-fn removed_byte(plan: &PartialPlan, stays: &PartialPlan, k: u8) -> u8
-    requires { k < 32 }
-    ensures { result ≡ byte_of (removed plan.now stays.now) k }
-{
-    let mut byte = 0u8;
-    for j in 0..8u8 {
-        byte = 2 * byte + removed_bit(plan, stays, 8 * k + 7 - j);
+impl Removal<'_> {
+    fn contains(&self, atom: u8) -> bool
+        ensures { result ≡ removed self.now.plan.now self.now.stays.now atom }
+    {
+        self.plan.has(atom) && !self.stays.has(atom)
     }
-    byte
-}
 
-pub(crate) fn removed_bytes(plan: &PartialPlan, stays: &PartialPlan) -> AtomSet
-    ensures { result.bytes ≡ bytes_of (removed plan.now stays.now) }
-{
-    let mut bytes = [0u8; 32];
-    for k in 0..32u8 {
-        bytes[k as usize] = removed_byte(plan, stays, k);
+    // The highest bit is the last atom's.
+    fn byte(&self, k: usize) -> u8
+        requires { k < 32 }
+        ensures { result ≡ byte_of (removed self.now.plan.now self.now.stays.now) k }
+    {
+        let first = 8 * k as u8;
+        let mut byte = 0u8;
+        for j in (0..8u8).rev() {
+            byte = 2 * byte + u8::from(self.contains(first + j));
+        }
+        byte
     }
-    AtomSet::of_bits(bytes)
+
+    pub(crate) fn set(&self) -> AtomSet
+        ensures { result.bytes ≡ bytes_of (removed self.now.plan.now self.now.stays.now) }
+    {
+        AtomSet::of_bits(array::from_fn(|k| self.byte(k)))
+    }
 }

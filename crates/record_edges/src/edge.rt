@@ -4,7 +4,8 @@ use std::fmt;
 use std::fmt::{Display, Formatter, Write};
 use std::test::Fail;
 
-// The number of a record's fault, and the byte that it names.
+// The number of a record's fault, and the byte that it names, as they are published: a `RecordFault` would take both from the
+// code under test.
 pub type Want = Option<(usize, usize)>;
 
 pub const FINE: Want = None;
@@ -40,97 +41,120 @@ impl Display for Label<'_> {
     }
 }
 
-// A check that fails is named by its label.
-pub fn check(holds: bool, label: &Label<'_>) -> Result<(), Fail> {
-    if holds {
-        Ok(())
-    } else {
-        Err(Fail::new(format_args!("{label}")))
+impl Label<'_> {
+    pub fn failed(&self, what: &str) -> Fail {
+        let label = *self;
+        Fail::new(format_args!("{label}: {what}"))
+    }
+
+    pub fn check(&self, holds: bool) -> Result<(), Fail> {
+        if holds {
+            Ok(())
+        } else {
+            Err(self.failed("differs"))
+        }
+    }
+
+    pub fn check_fault(&self, fault: RecordFault, want: Want) -> Result<(), Fail> {
+        let named = fault.named();
+        self.check(named.layer == Layer::Record)?;
+        self.check(Some((named.number, named.byte)) == want)
+    }
+
+    // A place of another length is refused, and keeps its bytes.
+    fn check_misfit<K: Record>(&self, value: &K::Decoded, len: usize) -> Result<(), Fail> {
+        let mut place = [0xAA; 49];
+        if len > 49 {
+            return Err(self.failed("too long"));
+        }
+        match K::encode(value, &mut place[0..len]) {
+            Ok(()) => return Err(self.failed("accepted")),
+            Err(fault) => self.check_fault(fault, SIZE)?,
+        }
+        self.check(place == [0xAA; 49])
+    }
+
+    // Both round trips in one call each.
+    fn check_trips<K: Record>(&self, value: &K::Decoded, bytes: &[u8]) -> Result<(), Fail>
+    where
+        K::Decoded: Drop,
+    {
+        let mut place = [0xAA; 48];
+        self.check(rewrite::<K>(bytes, &mut place).is_ok())?;
+        self.check(&place[..] == bytes)?;
+        place = [0xAA; 48];
+        match reread::<K>(value) {
+            Ok(same) => self.check(K::encode(&same, &mut place).is_ok())?,
+            Err(_) => return Err(self.failed("not reread")),
+        }
+        self.check(&place[..] == bytes)
+    }
+
+    // What is read is written again as the same bytes.
+    fn check_written<K: Record>(&self, value: &K::Decoded, bytes: &[u8]) -> Result<(), Fail>
+    where
+        K::Decoded: Drop,
+    {
+        self.check_trips::<K>(value, bytes)?;
+        let mut place = [0xAA; 48];
+        self.check(K::encode(value, &mut place).is_ok())?;
+        self.check(&place[..] == bytes)?;
+        self.check_misfit::<K>(value, 0)?;
+        self.check_misfit::<K>(value, 47)?;
+        self.check_misfit::<K>(value, 49)
+    }
+
+    fn check_read<K: Record>(&self, bytes: &[u8], want: Want) -> Result<(), Fail>
+    where
+        K::Decoded: Drop,
+    {
+        match K::decode(bytes) {
+            Ok(value) => {
+                self.check(FINE == want)?;
+                self.check_written::<K>(&value, bytes)
+            }
+            Err(fault) => self.check_fault(fault, want),
+        }
     }
 }
 
-pub fn changed(label: &Label<'_>, base: &[u8; 48], edge: &Edge) -> Result<[u8; 48], Fail> {
+// A base, and the rows that change it.
+#[derive(Clone, Copy)]
+pub struct Table<'a>(pub &'a str, pub &'a [u8; 48], pub &'a [Edge]);
+
+impl Table<'_> {
+    // Each row is put to a judge of its bytes.
+    pub fn check_rows<F: Fn(&Label<'_>, &[u8], Want) -> Result<(), Fail>>(
+        &self,
+        judge: F,
+    ) -> Result<(), Fail>
+        requires { F.IsAlwaysCallable judge }
+    {
+        let Table(name, base, edges) = *self;
+        for (row, edge) in edges.iter().enumerate() {
+            let label = Label(name, "row", row);
+            let record = changed(&label, base, edge)?;
+            judge(&label, &record, edge.2)?;
+        }
+        Ok(())
+    }
+
+    pub fn check<K: Record>(&self) -> Result<(), Fail>
+    where
+        K::Decoded: Drop,
+    {
+        self.check_rows(|label, bytes, want| label.check_read::<K>(bytes, want))
+    }
+}
+
+fn changed(label: &Label<'_>, base: &[u8; 48], edge: &Edge) -> Result<[u8; 48], Fail> {
     let Edge(at, bytes, _) = *edge;
     let mut record = *base;
     if at > 48 || bytes.len() > 48 - at {
-        return Err(Fail::new(format_args!("{label}: does not fit")));
+        return Err(label.failed("does not fit"));
     }
     record[at..at + bytes.len()].copy_from_slice(bytes);
     Ok(record)
-}
-
-pub fn check_fault(label: &Label<'_>, fault: RecordFault, want: Want) -> Result<(), Fail> {
-    let named = fault.named();
-    check(named.layer == Layer::Record, label)?;
-    check(Some((named.number, named.byte)) == want, label)
-}
-
-// A place of another length is refused, and keeps its bytes.
-fn check_misfit<K: Record>(label: &Label<'_>, value: &K::Decoded, len: usize) -> Result<(), Fail> {
-    let mut place = [0xAA; 49];
-    if len > 49 {
-        return Err(Fail::new(format_args!("{label}: too long")));
-    }
-    match K::encode(value, &mut place[0..len]) {
-        Ok(()) => return Err(Fail::new(format_args!("{label}: accepted"))),
-        Err(fault) => check_fault(label, fault, SIZE)?,
-    }
-    check(place == [0xAA; 49], label)
-}
-
-// Both round trips in one call each.
-fn check_trips<K: Record>(label: &Label<'_>, value: &K::Decoded, bytes: &[u8]) -> Result<(), Fail>
-where
-    K::Decoded: Drop,
-{
-    let mut place = [0xAA; 48];
-    check(rewrite::<K>(bytes, &mut place).is_ok(), label)?;
-    check(&place[..] == bytes, label)?;
-    place = [0xAA; 48];
-    match reread::<K>(value) {
-        Ok(same) => check(K::encode(&same, &mut place).is_ok(), label)?,
-        Err(_) => return Err(Fail::new(format_args!("{label}: not reread"))),
-    }
-    check(&place[..] == bytes, label)
-}
-
-// What is read is written again as the same bytes.
-fn check_written<K: Record>(label: &Label<'_>, value: &K::Decoded, bytes: &[u8]) -> Result<(), Fail>
-where
-    K::Decoded: Drop,
-{
-    check_trips::<K>(label, value, bytes)?;
-    let mut place = [0xAA; 48];
-    check(K::encode(value, &mut place).is_ok(), label)?;
-    check(&place[..] == bytes, label)?;
-    check_misfit::<K>(label, value, 0)?;
-    check_misfit::<K>(label, value, 47)?;
-    check_misfit::<K>(label, value, 49)
-}
-
-fn check_read<K: Record>(label: &Label<'_>, bytes: &[u8], want: Want) -> Result<(), Fail>
-where
-    K::Decoded: Drop,
-{
-    match K::decode(bytes) {
-        Ok(value) => {
-            check(FINE == want, label)?;
-            check_written::<K>(label, &value, bytes)
-        }
-        Err(fault) => check_fault(label, fault, want),
-    }
-}
-
-pub fn check_edges<K: Record>(table: &str, base: &[u8; 48], edges: &[Edge]) -> Result<(), Fail>
-where
-    K::Decoded: Drop,
-{
-    for row in 0..edges.len() {
-        let label = Label(table, "row", row);
-        let record = changed(&label, base, &edges[row])?;
-        check_read::<K>(&label, &record, edges[row].2)?;
-    }
-    Ok(())
 }
 
 pub fn one_more(record: &[u8; 48]) -> [u8; 49] {
@@ -174,9 +198,9 @@ pub fn check_frame<K: Record>(table: &str, base: &[u8; 48]) -> Result<(), Fail>
 where
     K::Decoded: Drop,
 {
-    check_edges::<K>(table, base, &FRAME_EDGES)?;
-    check_read::<K>(&Label(table, "bytes", 0), &[], SIZE)?;
-    check_read::<K>(&Label(table, "zeros", 47), &[0; 47], SIZE)?;
-    check_read::<K>(&Label(table, "bytes", 47), &base[0..47], SIZE)?;
-    check_read::<K>(&Label(table, "bytes", 49), &one_more(base), SIZE)
+    Table(table, base, &FRAME_EDGES).check::<K>()?;
+    Label(table, "bytes", 0).check_read::<K>(&[], SIZE)?;
+    Label(table, "zeros", 47).check_read::<K>(&[0; 47], SIZE)?;
+    Label(table, "bytes", 47).check_read::<K>(&base[0..47], SIZE)?;
+    Label(table, "bytes", 49).check_read::<K>(&one_more(base), SIZE)
 }

@@ -22,34 +22,59 @@ const TABLE_AS_SUM: [Edge; 1] = [Edge(1, b"W", FINE)];
 fn check_kind(label: &Label<'_>, bytes: &[u8], kind: Kind, want: Want) -> Result<(), Fail> {
     match check_record(bytes) {
         Ok(found) => {
-            check(FINE == want, label)?;
-            check(found == kind, label)
+            label.check(FINE == want)?;
+            label.check(found == kind)
         }
-        Err(fault) => check_fault(label, fault, want),
+        Err(fault) => label.check_fault(fault, want),
     }
 }
 
 // A record that is accepted is of the kind.
-fn check_kinds(table: &str, base: &[u8; 48], edges: &[Edge], kind: Kind) -> Result<(), Fail> {
-    for row in 0..edges.len() {
-        let label = Label(table, "row", row);
-        let record = changed(&label, base, &edges[row])?;
-        check_kind(&label, &record, kind, edges[row].2)?;
-    }
-    Ok(())
+fn check_kinds(table: Table<'_>, kind: Kind) -> Result<(), Fail> {
+    table.check_rows(|label, bytes, want| check_kind(label, bytes, kind, want))
 }
 
 #[test]
 fn edges() -> Result<(), Fail> {
-    check_kinds("letters", rule_edges::BASE, &RULE_LETTERS, Kind::Rule)?;
-    check_kinds("plan as rule", plan_edges::BASE, &PLAN_AS_RULE, Kind::Rule)?;
-    check_kinds("table as sum", table_edges::BASE, &TABLE_AS_SUM, Kind::Sum)?;
-    check_kinds("rule", rule_edges::BASE, &rule_edges::EDGES, Kind::Rule)?;
-    check_kinds("plan", plan_edges::BASE, &plan_edges::EDGES, Kind::Plan)?;
-    check_kinds("table", table_edges::BASE, &table_edges::EDGES, Kind::Table)?;
-    check_kinds("table, frame", table_edges::BASE, &FRAME_EDGES, Kind::Table)?;
-    check_kinds("sum", sum_edges::BASE, &sum_edges::EDGES, Kind::Sum)?;
-    check_kinds("week", week_edges::BASE, &week_edges::EDGES, Kind::Week)
+    let tables = [
+        (
+            Table("letters", rule_edges::BASE, &RULE_LETTERS),
+            Kind::Rule,
+        ),
+        (
+            Table("plan as rule", plan_edges::BASE, &PLAN_AS_RULE),
+            Kind::Rule,
+        ),
+        (
+            Table("table as sum", table_edges::BASE, &TABLE_AS_SUM),
+            Kind::Sum,
+        ),
+        (
+            Table("rule", rule_edges::BASE, &rule_edges::EDGES),
+            Kind::Rule,
+        ),
+        (
+            Table("plan", plan_edges::BASE, &plan_edges::EDGES),
+            Kind::Plan,
+        ),
+        (
+            Table("table", table_edges::BASE, &table_edges::EDGES),
+            Kind::Table,
+        ),
+        (
+            Table("table, frame", table_edges::BASE, &FRAME_EDGES),
+            Kind::Table,
+        ),
+        (Table("sum", sum_edges::BASE, &sum_edges::EDGES), Kind::Sum),
+        (
+            Table("week", week_edges::BASE, &week_edges::EDGES),
+            Kind::Week,
+        ),
+    ];
+    for (table, kind) in &tables {
+        check_kinds(*table, *kind)?;
+    }
+    Ok(())
 }
 
 // No kind is asked where the length is wrong.

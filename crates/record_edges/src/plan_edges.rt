@@ -67,8 +67,8 @@ const WRONG_EDGES: [Edge; 7] = [
 
 #[test]
 fn edges() -> Result<(), Fail> {
-    check_edges::<PlanRecord>("edges", BASE, &EDGES)?;
-    check_edges::<PlanRecord>("full", FULL, &FULL_EDGES)?;
-    check_edges::<PlanRecord>("wrong", WRONG, &WRONG_EDGES)?;
+    Table("edges", BASE, &EDGES).check::<PlanRecord>()?;
+    Table("full", FULL, &FULL_EDGES).check::<PlanRecord>()?;
+    Table("wrong", WRONG, &WRONG_EDGES).check::<PlanRecord>()?;
     check_frame::<PlanRecord>("frame", BASE)
 }

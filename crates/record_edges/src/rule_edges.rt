@@ -94,8 +94,8 @@ const WRONG_EDGES: [Edge; 8] = [
 
 #[test]
 fn edges() -> Result<(), Fail> {
-    check_edges::<RuleRecord>("edges", BASE, &EDGES)?;
-    check_edges::<RuleRecord>("full", FULL, &FULL_EDGES)?;
-    check_edges::<RuleRecord>("wrong", WRONG, &WRONG_EDGES)?;
+    Table("edges", BASE, &EDGES).check::<RuleRecord>()?;
+    Table("full", FULL, &FULL_EDGES).check::<RuleRecord>()?;
+    Table("wrong", WRONG, &WRONG_EDGES).check::<RuleRecord>()?;
     check_frame::<RuleRecord>("frame", BASE)
 }

@@ -22,17 +22,18 @@ const FORM_EDGES: [Edge; 12] = [
 
 #[test]
 fn edges() -> Result<(), Fail> {
-    check_edges::<SourceRecord>("other forms", table_edges::BASE, &FORM_EDGES)?;
-    check_edges::<SourceRecord>("table, edges", table_edges::BASE, &table_edges::EDGES)?;
-    check_edges::<SourceRecord>(
+    Table("other forms", table_edges::BASE, &FORM_EDGES).check::<SourceRecord>()?;
+    Table("table, edges", table_edges::BASE, &table_edges::EDGES).check::<SourceRecord>()?;
+    Table(
         "table, wrong",
         table_edges::WRONG,
         &table_edges::WRONG_EDGES,
-    )?;
-    check_edges::<SourceRecord>("sum, edges", sum_edges::BASE, &sum_edges::EDGES)?;
-    check_edges::<SourceRecord>("sum, wrong", sum_edges::WRONG, &sum_edges::WRONG_EDGES)?;
-    check_edges::<SourceRecord>("week, edges", week_edges::BASE, &week_edges::EDGES)?;
-    check_edges::<SourceRecord>("week, wrong", week_edges::WRONG, &week_edges::WRONG_EDGES)?;
+    )
+    .check::<SourceRecord>()?;
+    Table("sum, edges", sum_edges::BASE, &sum_edges::EDGES).check::<SourceRecord>()?;
+    Table("sum, wrong", sum_edges::WRONG, &sum_edges::WRONG_EDGES).check::<SourceRecord>()?;
+    Table("week, edges", week_edges::BASE, &week_edges::EDGES).check::<SourceRecord>()?;
+    Table("week, wrong", week_edges::WRONG, &week_edges::WRONG_EDGES).check::<SourceRecord>()?;
     check_frame::<SourceRecord>("table, frame", table_edges::BASE)?;
     check_frame::<SourceRecord>("sum, frame", sum_edges::BASE)?;
     check_frame::<SourceRecord>("week, frame", week_edges::BASE)

@@ -82,9 +82,9 @@ const FORM_EDGES: [Edge; 2] = [Edge(1, b"T", FORM), Edge(1, b"K", FORM)];
 
 #[test]
 fn edges() -> Result<(), Fail> {
-    check_edges::<SumRecord>("edges", BASE, &EDGES)?;
-    check_edges::<SumRecord>("eight inputs", EIGHT, &EIGHT_EDGES)?;
-    check_edges::<SumRecord>("wrong", WRONG, &WRONG_EDGES)?;
-    check_edges::<SumRecord>("other forms", BASE, &FORM_EDGES)?;
+    Table("edges", BASE, &EDGES).check::<SumRecord>()?;
+    Table("eight inputs", EIGHT, &EIGHT_EDGES).check::<SumRecord>()?;
+    Table("wrong", WRONG, &WRONG_EDGES).check::<SumRecord>()?;
+    Table("other forms", BASE, &FORM_EDGES).check::<SumRecord>()?;
     check_frame::<SumRecord>("frame", BASE)
 }

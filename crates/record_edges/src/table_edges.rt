@@ -96,10 +96,10 @@ const FORM_EDGES: [Edge; 2] = [Edge(1, b"W", FORM), Edge(1, b"K", FORM)];
 
 #[test]
 fn edges() -> Result<(), Fail> {
-    check_edges::<TableRecord>("edges", BASE, &EDGES)?;
-    check_edges::<TableRecord>("seven inputs", SEVEN, &SEVEN_EDGES)?;
-    check_edges::<TableRecord>("eight inputs", EIGHT, &EIGHT_EDGES)?;
-    check_edges::<TableRecord>("wrong", WRONG, &WRONG_EDGES)?;
-    check_edges::<TableRecord>("other forms", BASE, &FORM_EDGES)?;
+    Table("edges", BASE, &EDGES).check::<TableRecord>()?;
+    Table("seven inputs", SEVEN, &SEVEN_EDGES).check::<TableRecord>()?;
+    Table("eight inputs", EIGHT, &EIGHT_EDGES).check::<TableRecord>()?;
+    Table("wrong", WRONG, &WRONG_EDGES).check::<TableRecord>()?;
+    Table("other forms", BASE, &FORM_EDGES).check::<TableRecord>()?;
     check_frame::<TableRecord>("frame", BASE)
 }

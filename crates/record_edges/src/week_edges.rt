@@ -93,9 +93,9 @@ const FORM_EDGES: [Edge; 2] = [Edge(1, b"T", FORM), Edge(1, b"W", FORM)];
 
 #[test]
 fn edges() -> Result<(), Fail> {
-    check_edges::<WeekRecord>("edges", BASE, &EDGES)?;
-    check_edges::<WeekRecord>("eight inputs", EIGHT, &EIGHT_EDGES)?;
-    check_edges::<WeekRecord>("wrong", WRONG, &WRONG_EDGES)?;
-    check_edges::<WeekRecord>("other forms", BASE, &FORM_EDGES)?;
+    Table("edges", BASE, &EDGES).check::<WeekRecord>()?;
+    Table("eight inputs", EIGHT, &EIGHT_EDGES).check::<WeekRecord>()?;
+    Table("wrong", WRONG, &WRONG_EDGES).check::<WeekRecord>()?;
+    Table("other forms", BASE, &FORM_EDGES).check::<WeekRecord>()?;
     check_frame::<WeekRecord>("frame", BASE)
 }

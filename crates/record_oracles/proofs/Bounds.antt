@@ -1,6 +1,6 @@
 -- The interpretations that agree with a partial plan lie between its two fillings. Assumes nothing.
-use Rattle.std.proofs.Common.{◌≡◌, ℕ, ◌≤◌, Bool, true, false, cond, ◌&&◌, ltb, leb, Some, None, Option, sym, refl, ap, ◌∙◌, subst, arith}
-use Rattle.std.proofs.lemmas.Bool.{ltb-true, ltb-false, leb-true, leb-false, le-leb, lt-leb, lt-ltb, both_ways, cond_both, cond-true}
+use Rattle.std.proofs.Common.{◌≡◌, ℕ, ◌<◌, ◌≤◌, Bool, true, false, cond, ◌&&◌, ltb, leb, Some, None, sym, refl, ◌∙◌, subst, arith}
+use Rattle.std.proofs.lemmas.Bool.{ltb-true, le-leb, lt-leb, lt-ltb, both_ways, cond-true}
 use Rattle.semantics.specs.Program.{Interp, atom_limit}
 use Rattle.plans.specs.declared.partial_plan.Status.{Status}
 use Rattle.plans.specs.declared.partial_plan.Status.TheVariants.{Open, In, Out}
@@ -8,7 +8,7 @@ use Rattle.plans.specs.declared.partial_plan.PartialPlan.{PartialPlan}
 use Rattle.plans.specs.Partial.{status_at, place_at, Admits, Agrees}
 use Rattle.record_oracles.specs.Truth.{Settles}
 use Rattle.record_oracles.specs.Inputs.{holds, in_or, filled}
-use Rattle.record_oracles.specs.Amounts.{between}
+use Rattle.record_oracles.specs.Amounts.{Below, Grows}
 
 -- what a place's status says of an input
 admits_masked : (x : Bool) (s : Status) (v : Bool) → (x ≡ true → Admits s v) → Admits (cond x s Out) (x && v)
@@ -35,10 +35,6 @@ filled_agrees b p a lt =
     subst (λ (s : Status). Admits (status_at p a) (in_or b s)) (sym (cond-true (ltb a atom_limit) (status_at p a) Out (lt-ltb a atom_limit lt)))
     (admits_in_or b (status_at p a))
 
--- every input that is in I is in J
-abbrev pub Below : Interp → Interp → Type 0
-Below I J = (a : ℕ) → holds I a ≡ true → holds J a ≡ true
-
 low_in : (s : Status) (v : Bool) → Admits s v → in_or false s ≡ true → v ≡ true
 low_in Open v h e = absurd (both_ways false refl e)
 low_in In v h e = h
@@ -55,32 +51,20 @@ low_below p I ag a e = low_in (place_at p a) (holds I a) (agrees_place p I ag a)
 pub below_high : (p : PartialPlan) (I : Interp) → Agrees p I → Below I (filled true p)
 below_high p I ag a e = holds_filled true p a ∙ high_in (place_at p a) (holds I a) (agrees_place p I ag a) e
 
--- an amount that only grows as more inputs come in
-module _ (f : Interp → ℕ) (mono : (I J : Interp) → Below I J → f I ≤ f J) (bound : ℕ) (p : PartialPlan) where
-  settles_ends : Settles (λ I. leb bound (f I)) p (between bound (f (filled false p)) (f (filled true p)))
-  settles_ends =
-      cond_both (leb bound low) (Some true) (cond (ltb high bound) (Some false) None) P
-      (λ e I ag. le-leb bound (f I) (omega (arith, leb-true bound low e, mono (filled false p) I (low_below p I ag))))
-      (λ e. cond_both (ltb high bound) (Some false) None P
-      (λ h I ag. lt-leb bound (f I) (omega (arith, ltb-true high bound h, mono I (filled true p) (below_high p I ag))))
-      (λ h. record {
-        one = filled true p;
-        other = filled false p;
-        one_agrees = filled_agrees true p;
-        other_agrees = filled_agrees false p;
-        one_true = le-leb bound high (ltb-false high bound h);
-        other_false = lt-leb bound low (leb-false bound low e);
-      }))
-    where
-      low : ℕ
-      low = f (filled false p)
+-- an amount that only grows as more inputs come in, against a bound
+module _ (f : Interp → ℕ) (grows : Grows f) (bound : ℕ) (p : PartialPlan) where
+  pub reached_at_least : bound ≤ f (filled false p) → Settles (λ I. leb bound (f I)) p (Some true)
+  reached_at_least e I ag = le-leb bound (f I) (omega (arith, e, grows (filled false p) I (low_below p I ag)))
 
-      high : ℕ
-      high = f (filled true p)
+  pub missed_at_most : f (filled true p) < bound → Settles (λ I. leb bound (f I)) p (Some false)
+  missed_at_most e I ag = lt-leb bound (f I) (omega (arith, e, grows I (filled true p) (below_high p I ag)))
 
-      P : Option Bool → Type 0
-      P = Settles (λ I. leb bound (f I)) p
-
-  pub settles_between : (low high : ℕ) (r : Option Bool) → low ≡ f (filled false p) → high ≡ f (filled true p) → r ≡ between bound low high → Settles (λ I. leb bound (f I)) p r
-  settles_between low high r l h e =
-      subst (λ (q : Option Bool). Settles (λ I. leb bound (f I)) p q) (sym (e ∙ ap (λ n. between bound n high) l ∙ ap (between bound (f (filled false p))) h)) settles_ends
+  pub differs_between : f (filled false p) < bound → bound ≤ f (filled true p) → Settles (λ I. leb bound (f I)) p None
+  differs_between low high = record {
+    one = filled true p;
+    other = filled false p;
+    one_agrees = filled_agrees true p;
+    other_agrees = filled_agrees false p;
+    one_true = le-leb bound (f (filled true p)) high;
+    other_false = lt-leb bound (f (filled false p)) low;
+  }

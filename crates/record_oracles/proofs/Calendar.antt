@@ -1,13 +1,14 @@
 -- The weeks of the inputs that are in. Assumes nothing.
-use Rattle.std.proofs.Common.{◌≡◌, ℕ, ◌+◌, ◌<◌, ◌≤◌, Bool, true, false, cond, ◌&&◌, ◌||◌, eqb, leb, List, [], ◌∷◌, length, get_or, drop, sym, refl, ap, ◌∙◌, ⊎_elim, arith}
-use Rattle.std.proofs.lemmas.List.{at_drop_more}
+use Rattle.std.proofs.Common.{◌≡◌, ℕ, suc, ◌+◌, Bool, true, false, cond, not, ◌&&◌, ◌||◌, eqb, leb, List, [], ◌∷◌, length, drop, filter, sym, refl, ap, ◌∙◌, ⊎_elim, arith}
+use Rattle.std.specs.List.{list_any, enumerate_from}
 use Rattle.std.proofs.lemmas.Bool.{and_parts, and_from, or_cases, or_left, or_right, le-leb, leb-true}
 use Rattle.semantics.specs.Program.{Interp, any}
 use Rattle.plans.specs.declared.partial_plan.PartialPlan.{PartialPlan}
 use Rattle.sources.specs.declared.week_source.Dated.{Dated}
 use Rattle.record_oracles.specs.Inputs.{holds, filled}
 use Rattle.record_oracles.specs.Weeks.{week_of, weeks_in, distinct, visited, Enough, WeeksStand}
-use Rattle.record_oracles.proofs.Bounds.{Below, holds_filled}
+use Rattle.record_oracles.specs.Amounts.{Below, Grows}
+use Rattle.record_oracles.proofs.Bounds.{holds_filled}
 use Rattle.record_oracles.proofs.Distinct.{among, Inside, choose, different_le, distinct_mono, each_among, among_each}
 
 pub among_if : (h : Bool) (w v : ℕ) (ws : List ℕ) → among w (cond h (v ∷ ws) ws) ≡ ((h && eqb w v) || among w ws)
@@ -31,27 +32,50 @@ weeks_inside first (t ∷ ts) I J sub v e =
     (λ (h : among v (weeks_in I first ts) ≡ true). or_right (j && eqb v w) (among v (weeks_in J first ts)) (weeks_inside first ts I J sub v h))
     (or_cases (i && eqb v w) (among v (weeks_in I first ts)) (sym (among_if i v w (weeks_in I first ts)) ∙ e))
 
-pub weeks_mono : (first : ℕ) (ts : List Dated) (I J : Interp) → Below I J → distinct (weeks_in I first ts) ≤ distinct (weeks_in J first ts)
-weeks_mono first ts I J sub = distinct_mono (weeks_in I first ts) (weeks_in J first ts) (weeks_inside first ts I J sub)
+pub weeks_grow : (first : ℕ) (ts : List Dated) → Grows (λ I. distinct (weeks_in I first ts))
+weeks_grow first ts I J sub = distinct_mono (weeks_in I first ts) (weeks_in J first ts) (weeks_inside first ts I J sub)
 
--- one input more
-module _ (b : Bool) (p : PartialPlan) (first : ℕ) (ts : List Dated) (k : ℕ) (d : Dated) (lt : k < length ts) where
-  pub among_more : (w : ℕ) (v : Bool) → v ≡ filled b p (get_or ts k d).atom → among w (weeks_in (filled b p) first (drop k ts)) ≡ ((v && eqb w (week_of first (get_or ts k d).day)) || among w (weeks_in (filled b p) first (drop (k + 1) ts)))
-  among_more w v is =
-      at_drop_more (λ l. among w (weeks_in (filled b p) first l)) ts k d lt
-      ∙ among_if (holds (filled b p) (get_or ts k d).atom) w (week_of first (get_or ts k d).day) (weeks_in (filled b p) first (drop (k + 1) ts))
-      ∙ ap (λ x. (x && eqb w (week_of first (get_or ts k d).day)) || among w (weeks_in (filled b p) first (drop (k + 1) ts))) (holds_filled b p (get_or ts k d).atom ∙ sym is)
+cond_one : (h a : Bool) → ◌≡◌ {A = ℕ} (cond (h && not a) 1 0) (cond h (cond a 0 1) 0)
+cond_one true true = refl
+cond_one true false = refl
+cond_one false a = refl
 
-  pub distinct_more : (v : Bool) → v ≡ filled b p (get_or ts k d).atom → distinct (weeks_in (filled b p) first (drop k ts)) ≡ cond v (cond (among (week_of first (get_or ts k d).day) (weeks_in (filled b p) first (drop (k + 1) ts))) 0 1) 0 + distinct (weeks_in (filled b p) first (drop (k + 1) ts))
-  distinct_more v is =
-      at_drop_more (λ l. distinct (weeks_in (filled b p) first l)) ts k d lt
-      ∙ distinct_if (holds (filled b p) (get_or ts k d).atom) (week_of first (get_or ts k d).day) (weeks_in (filled b p) first (drop (k + 1) ts))
-      ∙ ap (λ x. cond x (cond (among (week_of first (get_or ts k d).day) (weeks_in (filled b p) first (drop (k + 1) ts))) 0 1) 0 + distinct (weeks_in (filled b p) first (drop (k + 1) ts))) (holds_filled b p (get_or ts k d).atom ∙ sym is)
+length_if : {A : Type 0} (h : Bool) (x : A) (xs : List A) → length (cond h (x ∷ xs) xs) ≡ cond h 1 0 + length xs
+length_if true x xs = omega arith
+length_if false x xs = omega arith
 
-  pub week_more : (w : ℕ) → w ≡ week_of first (get_or ts k d).day → true ≡ filled b p (get_or ts k d).atom → (v : Bool) → v ≡ among w (weeks_in (filled b p) first (drop (k + 1) ts)) → distinct (weeks_in (filled b p) first (drop k ts)) ≡ cond v 0 1 + distinct (weeks_in (filled b p) first (drop (k + 1) ts))
-  week_more w is counted v e =
-      distinct_more true counted
-      ∙ ap (λ x. cond x 0 1 + distinct (weeks_in (filled b p) first (drop (k + 1) ts))) (sym (e ∙ ap (λ n. among n (weeks_in (filled b p) first (drop (k + 1) ts))) is))
+-- the inputs that are in, where the open atoms are filled
+module _ (b : Bool) (p : PartialPlan) (first : ℕ) where
+  abbrev weeks : List Dated → List ℕ
+  weeks ts = weeks_in (filled b p) first ts
+
+  abbrev pub falls : ℕ → Dated → Bool
+  falls w t = filled b p t.atom && eqb w (week_of first t.day)
+
+  pub some_falls : (w : ℕ) (ts : List Dated) → list_any (falls w) ts ≡ among w (weeks ts)
+  some_falls w [] = refl
+  some_falls w (t ∷ ts) =
+      ap (λ h. (h && eqb w (week_of first t.day)) || list_any (falls w) ts) (sym (holds_filled b p t.atom))
+      ∙ ap (λ r. (holds (filled b p) t.atom && eqb w (week_of first t.day)) || r) (some_falls w ts)
+      ∙ sym (among_if (holds (filled b p) t.atom) w (week_of first t.day) (weeks ts))
+
+  -- no later input falls in its week
+  abbrev pub is_last : List Dated → ℕ × Dated → Bool
+  is_last all t = filled b p t.1.atom && not (among (week_of first t.1.day) (weeks (drop (t.0 + 1) all)))
+
+  last_counted : (all : List Dated) (n : ℕ) (ts : List Dated) → ((k : ℕ) → drop k ts ≡ drop (n + k) all) → length (filter (is_last all) (enumerate_from n ts)) ≡ distinct (weeks ts)
+  last_counted all n [] later = refl
+  last_counted all n (t ∷ ts) later =
+      let w = week_of first t.day in
+      let one : ◌≡◌ {A = ℕ} (cond (is_last all (n, t)) 1 0) (cond (holds (filled b p) t.atom) (cond (among w (weeks ts)) 0 1) 0) =
+      cond_one (filled b p t.atom) (among w (weeks (drop (n + 1) all)))
+      ∙ ap (λ l. cond (filled b p t.atom) (cond (among w (weeks l)) 0 1) 0) (sym (later 1))
+      ∙ ap (λ h. cond h (cond (among w (weeks ts)) 0 1) 0) (sym (holds_filled b p t.atom)) in
+      let rest = last_counted all (n + 1) ts (λ k. later (suc k) ∙ ap (λ m. drop m all) (omega arith)) in
+      omega (arith, length_if (is_last all (n, t)) (n, t) (filter (is_last all) (enumerate_from (n + 1) ts)), one, rest, distinct_if (holds (filled b p) t.atom) w (weeks ts))
+
+  pub lasts_counted : (ts : List Dated) → length (filter (is_last ts) (enumerate_from 0 ts)) ≡ distinct (weeks ts)
+  lasts_counted ts = last_counted ts 0 ts (λ k. ap (λ m. drop m ts) (omega arith))
 
 -- the count in the subject's words
 visited_among : (I : Interp) (first w : ℕ) (ts : List Dated) → any (λ (t : Dated). holds I t.atom && eqb w (week_of first t.day)) ts ≡ among w (weeks_in I first ts)

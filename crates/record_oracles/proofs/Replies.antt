@@ -1,11 +1,15 @@
 -- The reply of a list of sources, by what its source settles. Assumes nothing.
-use Rattle.std.proofs.Common.{◌≡◌, ℕ, zero, suc, ◌<◌, Bool, List, [], ◌∷◌, length, get_or, Some, Option, sym, refl, ap, ◌∙◌, subst, arith}
+use Rattle.std.proofs.Common.{◌≡◌, ℕ, zero, suc, ◌<◌, Bool, true, false, cond, List, [], ◌∷◌, length, get_or, Some, None, Option, sym, refl, ap, ◌∙◌, subst, arith}
 use Rattle.std.proofs.lemmas.Bool.{both_ways}
-use Rattle.semantics.specs.Program.{Interp, Same}
+use Rattle.std.specs.Option.{option_map_or}
+use Rattle.semantics.specs.Program.{Interp, Same, Meaning}
 use Rattle.plans.specs.declared.partial_plan.PartialPlan.{PartialPlan}
 use Rattle.plans.specs.Partial.{Agrees, Decided, status_at}
 use Rattle.plans.proofs.Partial.{settled}
-use Rattle.record_oracles.specs.Truth.{Truth, Differs, Settles}
+use Rattle.oracles.specs.Answers.{Answers}
+use Rattle.oracles.specs.declared.oracle.Reply.{Reply}
+use Rattle.oracles.specs.declared.oracle.Reply.TheVariants.{Yes, No, Open}
+use Rattle.record_oracles.specs.Truth.{Truth, Differs, Settles, Sharp}
 use Rattle.record_oracles.specs.Listed.{listed}
 
 -- below the length no default is read
@@ -29,5 +33,15 @@ pub settles_at : {S : Type 0} (t : S → Truth) (ss : List S) (n : ℕ) (s : S) 
 settles_at t ss n s p r lt is h =
     subst (λ (u : Truth). Settles u.on p r) (ap t is ∙ sym (listed_at t ss n s lt)) h
 
-pub settled_as : (t : Interp → Bool) (p : PartialPlan) (a b : Bool) → a ≡ b → Settles t p (Some a) → Settles t p (Some b)
-settled_as t p a b e h I ag = h I ag ∙ e
+-- the reply by what is settled of a source that there is
+module _ (m : Meaning) (n : ℕ) (p : PartialPlan) (lt : n < m.count) where
+  abbrev Told : Reply → Type 0
+  Told r = Answers m n p r × Sharp m n p r
+
+  told : (t : Option Bool) → Settles (m.truth n) p t → Told (option_map_or (λ b. cond b Yes No) t Open)
+  told (Some true) h = ((lt, h), tt)
+  told (Some false) h = ((lt, h), tt)
+  told None h = ((lt, undecided (record { on = m.truth n; local = m.local n }) p h), h)
+
+  pub replied : (t : Option Bool) → Settles (m.truth n) p t → (r : Reply) → r ≡ option_map_or (λ b. cond b Yes No) t Open → Answers m n p r × Sharp m n p r
+  replied t h r e = subst Told (sym e) (told t h)

@@ -1,8 +1,10 @@
 -- The indices that a partial plan leaves possible, place by place. Assumes nothing.
-use Rattle.std.proofs.Common.{◌≡◌, ℕ, zero, suc, ◌+◌, ◌*◌, ◌%◌, ◌^◌, ◌<◌, ◌≤◌, min, Bool, true, false, cond, not, ◌&&◌, eqb, ltb, leb, List, [], ◌∷◌, length, get_or, drop, Some, None, Decides, sym, refl, ap, ◌∙◌, subst, ⊎_elim, pow-suc, arith, pow_mono}
+use Rattle.std.proofs.Common.{◌≡◌, ℕ, zero, suc, ◌+◌, ◌^◌, ◌<◌, ◌≤◌, min, Bool, true, false, cond, not, ◌&&◌, eqb, ltb, leb, List, [], ◌∷◌, length, get_or, drop, Some, None, Decides, sym, refl, ap, ◌∙◌, subst, ⊎_elim, pow-suc, arith}
 use mathlib.Core.Bool.{beq}
 use Rattle.std.proofs.lemmas.List.{at_drop_more, at_drop_all}
 use Rattle.std.proofs.lemmas.Bool.{leb-true, eqb-true, eq-eqb, ne_eqb, lt-ltb, ltb-true, and_parts, cond_both, cond-true, cond-false, cases_Bool, both_ways}
+use Rattle.std.specs.Cmp.{booleans_Decides}
+use Rattle.std.proofs.Math.Bool.{not-eq-not}
 use Rattle.std.proofs.lemmas.Bool.Decides.{Decides-like}
 use Rattle.semantics.specs.Program.{Interp, atom_limit}
 use Rattle.plans.specs.declared.partial_plan.Status.{Status}
@@ -103,32 +105,14 @@ module _ (s : TableSource) (p : PartialPlan) (k i : ℕ) (b : Bool) (lt : k < le
   )
 
 -- no place is left
-beq_same : (x y : Bool) → beq x y ≡ true → x ≡ y
-beq_same true true e = refl
-beq_same true false e = absurd (both_ways false refl e)
-beq_same false true e = absurd (both_ways false refl e)
-beq_same false false e = refl
-
-beq_self : (x y : Bool) → x ≡ y → beq x y ≡ true
-beq_self true true e = refl
-beq_self true false e = sym e
-beq_self false true e = e
-beq_self false false e = refl
-
 pub end_step : (s : TableSource) (p : PartialPlan) (k i : ℕ) (b r : Bool) → length s.inputs ≤ k → r ≡ bit_in s.bits i → Decides (beq r b) (Reaches s p k i b)
 end_step s p k i b r le is = (
-  λ e. record { at = filled false p; agrees = filled_agrees false p; bit = ap (bit_in s.bits) (whole (filled false p)) ∙ sym is ∙ beq_same r b e },
-  λ q. beq_self r b (is ∙ ap (bit_in s.bits) (sym (whole q.at)) ∙ q.bit),
+  λ e. record { at = filled false p; agrees = filled_agrees false p; bit = ap (bit_in s.bits) (whole (filled false p)) ∙ sym is ∙ (booleans_Decides r b).0 e },
+  λ q. (booleans_Decides r b).1 (is ∙ ap (bit_in s.bits) (sym (whole q.at)) ∙ q.bit),
 )
   where
     whole : (I : Interp) → i + index_of I k (drop k s.inputs) ≡ i
     whole I = let none = at_drop_all (index_of I k) s.inputs k le in omega arith
-
-other : (b x : Bool) → (x ≡ not b → ⊥) → x ≡ b
-other true true h = refl
-other true false h = absurd (h refl)
-other false true h = absurd (h refl)
-other false false h = refl
 
 -- all places are left
 module _ (s : TableSource) (p : PartialPlan) where
@@ -137,7 +121,7 @@ module _ (s : TableSource) (p : PartialPlan) where
 
   pub settles_other : (b : Bool) → Decides false (Reaches s p 0 0 (not b)) → Settles (table_truth s).on p (Some b)
   settles_other b d I ag =
-      other b ((table_truth s).on I) (λ e. both_ways false refl (d.1 (record { at = I; agrees = ag; bit = ap (bit_in s.bits) (start I) ∙ e })))
+      not-eq-not.0 (λ e. both_ways false refl (d.1 (record { at = I; agrees = ag; bit = ap (bit_in s.bits) (start I) ∙ e })))
 
   pub settles_none : Decides true (Reaches s p 0 0 false) → Decides true (Reaches s p 0 0 true) → Settles (table_truth s).on p None
   settles_none f t =
@@ -153,8 +137,5 @@ module _ (s : TableSource) (p : PartialPlan) where
       }
 
 -- the weight of a place
-pub shifted : (k : ℕ) → k ≤ 8 → (1 * 2 ^ k) % 18446744073709551616 ≡ 2 ^ k
-shifted k h = let small = pow_mono {i = k} {j = 8} h in omega arith
-
 pub doubled : (k : ℕ) → 2 ^ (k + 1) ≡ 2 ^ k + 2 ^ k
 doubled k = let q : k + 1 ≡ suc k = omega arith in ap (λ (n : ℕ). 2 ^ n) q ∙ (let m = pow-suc 2 k in omega arith)

@@ -1,5 +1,11 @@
--- Truths that hold from a bound on, between the least and the greatest amount. Assumes nothing.
-use Rattle.std.specs.Prelude.{ℕ, Bool, true, false, cond, Some, None, Option, nat_le, nat_lt}
+-- Amounts that more atoms in never make less. Assumes nothing.
+use Rattle.std.specs.Prelude.{◌≡◌, ℕ, ◌≤◌, true}
+use Rattle.semantics.specs.Program.{Interp}
+use Rattle.record_oracles.specs.Inputs.{holds}
 
-abbrev pub between : ℕ → ℕ → ℕ → Option Bool
-between bound low high = cond (nat_le bound low) (Some true) (cond (nat_lt high bound) (Some false) None)
+-- every input that is in I is in J
+abbrev pub Below : Interp → Interp → Type 0
+Below I J = (a : ℕ) → holds I a ≡ true → holds J a ≡ true
+
+abbrev pub Grows : (Interp → ℕ) → Type 0
+Grows amount = (I J : Interp) → Below I J → amount I ≤ amount J

@@ -6,6 +6,7 @@ use Rattle.plans.specs.declared.partial_plan.Status.{Status}
 use Rattle.plans.specs.declared.partial_plan.Status.TheVariants.{Open, In, Out}
 use Rattle.plans.specs.declared.partial_plan.PartialPlan.{PartialPlan}
 use Rattle.plans.specs.Partial.{place_at}
+use Rattle.record_oracles.specs.declared.filled.Filled.{Filled}
 
 -- an unused place, 255, is no atom and so never in
 abbrev pub holds : Interp → ℕ → Bool
@@ -26,3 +27,7 @@ in_or b Out = false
 -- the partial plan with its open atoms all in or all out
 abbrev pub filled : Bool → PartialPlan → Interp
 filled b p a = in_or b (place_at p a)
+
+-- what is in, in a filled plan
+abbrev pub atoms_in : Filled → Interp
+atoms_in plan = filled plan.open_in plan.plan.now

@@ -13,6 +13,8 @@ pub mod sums;
 pub mod weeks;
 // Amounts that grow with the atoms that are in.
 mod amounts;
+// A partial plan whose open atoms are filled in.
+mod filled;
 
 pub use record_oracle::RecordOracle;
 pub use source_truth::SourceTruth;

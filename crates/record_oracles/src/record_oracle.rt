@@ -35,9 +35,6 @@ impl<S: SourceTruth> Oracle for RecordOracle<S> {
         if number >= self.count() {
             return Reply::NoSource;
         }
-        match self.sources[number].settled(plan) {
-            None => Reply::Open,
-            Some(truth) => { if truth { Reply::Yes } else { Reply::No } }
-        }
+        Reply::from(self.sources[number].settled(plan))
     }
 }

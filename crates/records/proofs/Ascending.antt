@@ -1,6 +1,7 @@
 -- Atom lists that ascend, said of their places.
-use Rattle.std.proofs.Common.{◌≡◌, ℕ, zero, suc, ◌+◌, ◌<◌, ◌≤◌, min, true, cond, leb, List, [], ◌∷◌, length, get_or, sym, refl, ap, ◌∙◌, ⊎_elim, arith}
-use Rattle.std.proofs.lemmas.Bool.{leb-true, le-leb, lt-ltb, le-ltb, and_parts, and_from, cases_lt}
+use Rattle.std.proofs.Common.{◌≡◌, ℕ, zero, suc, ◌+◌, ◌-◌, ◌<◌, ◌≤◌, min, Bool, true, false, cond, ◌||◌, leb, ltb, eqb, List, [], ◌∷◌, length, get_or, sym, refl, ap, ◌∙◌, ⊎_elim, subst, arith, eqb-true}
+use Rattle.std.proofs.lemmas.Bool.{leb-true, le-leb, lt-ltb, le-ltb, and_parts, and_from, cases_lt, ltb-true, ltb-false, eqb-false, false≢true}
+use Rattle.std.specs.List.{IsAllAdjacentAnswer}
 use Rattle.records.specs.Atoms.{ascends, used, Ascending, UsedAt}
 
 -- the first place of a list, and the others
@@ -49,6 +50,53 @@ ascends_from low (x ∷ xs) a h = and_from _ _ (le-leb low x (h 0 (omega arith))
 
 pub ascends_back : (xs : List ℕ) → Ascending xs → ascends 0 xs ≡ true
 ascends_back xs a = ascends_from 0 xs a (λ k lt. omega arith)
+
+-- what each place and the next are to be
+abbrev pub next_above : ℕ → ℕ → Bool
+next_above x y = ltb x y || eqb y 255
+
+climbs : (x y : ℕ) → true ≡ next_above x y → y < 255 → x < y
+climbs x y h l = elim (ltb x y) as (λ t. ltb x y ≡ t → true ≡ (t || eqb y 255) → x < y) [
+  | true ↦ λ e k. ltb-true x y e
+  | false ↦ λ e k. let top : y ≡ 255 = eqb-true y 255 (sym k) in absurd (omega arith)
+] refl h
+
+module _ (xs : List ℕ) (adjacent : (k : ℕ) → k + 1 < length xs → true ≡ next_above (get_or xs k 0) (get_or xs (k + 1) 0)) where
+  spread : (d i : ℕ) → i + d + 1 < length xs → get_or xs (i + d + 1) 0 < 255 → get_or xs i 0 < get_or xs (i + d + 1) 0
+  spread zero i lt atom =
+      let here : i + 0 ≡ i = omega arith in
+      let P : ℕ → Type 0 = λ k. get_or xs k 0 < get_or xs (i + 0 + 1) 0 in
+      subst P here (climbs _ _ (adjacent (i + 0) lt) atom)
+  spread (suc d) i lt atom =
+      let e : i + suc d ≡ i + d + 1 = omega arith in
+      let last = climbs _ _ (adjacent (i + suc d) lt) atom in
+      let P : ℕ → Type 0 = λ k. get_or xs k 0 < get_or xs (i + suc d + 1) 0 in
+      let near : get_or xs (i + d + 1) 0 < get_or xs (i + suc d + 1) 0 = subst P e last in
+      let rest = spread d i (omega arith) (omega arith) in
+      omega arith
+
+  all_ascend : Ascending xs
+  all_ascend i j lt in_list atom =
+      let e : i + (j - i - 1) + 1 ≡ j = omega arith in
+      let P : ℕ → Type 0 = λ k. k < length xs → get_or xs k 0 < 255 → get_or xs i 0 < get_or xs k 0 in
+      subst P e (spread (j - i - 1) i) in_list atom
+
+-- a place that does not climb
+stays : (x y : ℕ) → y < 256 → false ≡ next_above x y → (y < 255) × (y ≤ x)
+stays x y few h = elim (ltb x y) as (λ t. ltb x y ≡ t → false ≡ (t || eqb y 255) → (y < 255) × (y ≤ x)) [
+  | true ↦ λ e k. absurd (false≢true k)
+  | false ↦ λ e k. let ne = eqb-false y 255 (sym k) in (omega arith, ltb-false x y e)
+] refl h
+
+pub ascends_answer : (xs : List ℕ) → ((k : ℕ) → get_or xs k 0 < 256) → (r : Bool) → IsAllAdjacentAnswer (λ x y b. b ≡ next_above x y) xs r → r ≡ ascends 0 xs
+ascends_answer xs few true h = sym (ascends_back xs (all_ascend xs (λ k lt. h k 0 lt)))
+ascends_answer xs few false h =
+    let k = h.0 in
+    let p = stays _ _ (few (k + 1)) (h.2 0) in
+    elim (ascends 0 xs) as (λ t. ascends 0 xs ≡ t → false ≡ t) [
+      | true ↦ λ e. let up = ascending xs e k (k + 1) (omega arith) h.1 p.0 in absurd (omega (arith, p.1))
+      | false ↦ λ e. refl
+    ] refl
 
 -- past the last atom no place is used
 none_used : (xs : List ℕ) → ascends 255 xs ≡ true → used xs ≡ 0

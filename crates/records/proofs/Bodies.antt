@@ -1,52 +1,62 @@
 -- The bytes of a rule's body, place by place.
-use Rattle.std.proofs.Common.{◌≡◌, ℕ, ◌+◌, ◌*◌, ◌<◌, cond, List, [], ◌∷◌, ◌++◌, length, get_or, take, drop, set, is_some, Some, None, Option, sym, refl, ap, ◌∙◌, arith}
-use Rattle.std.proofs.lemmas.List.{drop_more, take_more_set, append_assoc, length-set}
-use Rattle.std.specs.List.{flat_map}
+use Rattle.std.proofs.Common.{◌≡◌, ℕ, zero, suc, ◌+◌, ◌*◌, ◌<◌, Bool, true, false, cond, ◌&&◌, eqb, List, [], ◌∷◌, length, get_or, drop, map, is_some, None, Option, refl, ap, ap₂, ◌∙◌, arith}
+use Rattle.std.specs.List.{list_all, prefix_len}
+use Rattle.std.specs.Simd.{first_chunks}
 use Rattle.records.specs.declared.literal.Literal.{Literal}
-use Rattle.records.specs.declared.literal.Literal.TheVariants.{Atom, NotAtom, Source, NotSource}
-use Rattle.records.specs.Literals.{literal_of, pair_of, body_of, body_rule}
+use Rattle.records.specs.Literals.{literal_of, body_of, body_rule}
 use Rattle.records.specs.Faults.{all_are}
 
--- two bytes more
-pub two : (bs : List ℕ) (i : ℕ) → 2 * i + 1 < length bs → drop (2 * i) bs ≡ get_or bs (2 * i) 0 ∷ get_or bs (2 * i + 1) 0 ∷ drop (2 * (i + 1)) bs
-two bs i h =
-    let a : 2 * i < length bs = omega arith in
-    let e : 2 * i + 1 + 1 ≡ 2 * (i + 1) = omega arith in
-    drop_more bs (2 * i) 0 a ∙ ap (λ t. get_or bs (2 * i) 0 ∷ t) (drop_more bs (2 * i + 1) 0 h ∙ ap (λ k. get_or bs (2 * i + 1) 0 ∷ drop k bs) e)
+-- a list that is f of another at each place
+pub mapped : {A B : Type 0} (f : A → B) (xs : List A) (ys : List B) (d : A) (e : B) → length ys ≡ length xs → ((i : ℕ) → i < length xs → get_or ys i e ≡ f (get_or xs i d)) → ys ≡ map f xs
+mapped f [] [] d e l h = refl
+mapped f [] (y ∷ ys) d e l h = absurd (omega arith)
+mapped f (x ∷ xs) [] d e l h = absurd (omega arith)
+mapped f (x ∷ xs) (y ∷ ys) d e l h =
+    ap₂ ◌∷◌ (h 0 (omega arith)) (mapped f xs ys d e (omega arith) (λ i lt. h (suc i) (omega arith)))
 
-pub body_more : (bs : List ℕ) (body : List (Option Literal)) (i : ℕ) (l : Option Literal) → 2 * i + 1 < length bs → i < length body
-    → l ≡ literal_of (get_or bs (2 * i) 0) (get_or bs (2 * i + 1) 0) → take i body ++ body_of (drop (2 * i) bs) ≡ body_of bs
-    → take (i + 1) (set body i l) ++ body_of (drop (2 * (i + 1)) bs) ≡ body_of bs
-body_more bs body i l h k is so =
-    let rest = body_of (drop (2 * (i + 1)) bs) in
-    let next : body_of (drop (2 * i) bs) ≡ l ∷ rest = ap body_of (two bs i h) ∙ ap (λ x. x ∷ rest) (sym is) in
-    ap (λ t. t ++ rest) (take_more_set body i l k) ∙ append_assoc (take i body) (l ∷ []) rest ∙ ap (λ t. take i body ++ t) (sym next) ∙ so
+-- the places are read two bytes after two
+pub places_read : (n : ℕ) (bs : List ℕ) (ps : List (Option Literal)) → length bs ≡ 2 * n → length ps ≡ n
+    → ((i : ℕ) → i < n → get_or ps i None ≡ literal_of (get_or bs (2 * i) 0) (get_or bs (2 * i + 1) 0)) → ps ≡ body_of bs
+places_read n [] [] l m h = refl
+places_read n [] (p ∷ ps) l m h = absurd (omega arith)
+places_read n (c ∷ []) ps l m h = absurd (omega arith)
+places_read n (c ∷ d ∷ bs) [] l m h = absurd (omega arith)
+places_read zero (c ∷ d ∷ bs) (p ∷ ps) l m h = absurd (omega arith)
+places_read (suc n) (c ∷ d ∷ bs) (p ∷ ps) l m h =
+    let here : p ≡ literal_of c d = h 0 (omega arith) in
+    let rest : ps ≡ body_of bs = places_read n bs ps (omega arith) (omega arith) (λ i lt.
+    let e : 2 * suc i ≡ suc (suc (2 * i)) = omega arith in
+    let f : 2 * suc i + 1 ≡ suc (suc (2 * i + 1)) = omega arith in
+    h (suc i) (omega arith) ∙ ap₂ (λ j k. literal_of (get_or (c ∷ d ∷ bs) j 0) (get_or (c ∷ d ∷ bs) k 0)) e f) in
+    ap₂ ◌∷◌ here rest
 
-pub pair_two : (x : Option Literal) → pair_of x ≡ get_or (pair_of x) 0 0 ∷ get_or (pair_of x) 1 0 ∷ []
-pair_two None = refl
-pair_two (Some (Atom n)) = refl
-pair_two (Some (NotAtom n)) = refl
-pair_two (Some (Source n)) = refl
-pair_two (Some (NotSource n)) = refl
+-- whether two bytes are a literal
+abbrev pub written : List ℕ → Bool
+written pair = is_some (literal_of (get_or pair 0 0) (get_or pair 1 0))
 
-pub bytes_more : (bytes : List ℕ) (body : List (Option Literal)) (i : ℕ) (x : Option Literal) (pair : List ℕ) → 2 * i + 1 < length bytes → i < length body
-    → pair ≡ pair_of x → x ≡ get_or body i None → take (2 * i) bytes ++ flat_map pair_of (drop i body) ≡ flat_map pair_of body
-    → take (2 * (i + 1)) (set (set bytes (2 * i) (get_or pair 0 0)) (2 * i + 1) (get_or pair 1 0)) ++ flat_map pair_of (drop (i + 1) body) ≡ flat_map pair_of body
-bytes_more bytes body i x pair h k is read so =
-    let p = get_or pair 0 0 in
-    let q = get_or pair 1 0 in
-    let rest = flat_map pair_of (drop (i + 1) body) in
-    let a : 2 * i < length bytes = omega arith in
-    let b : 2 * i + 1 < length (set bytes (2 * i) p) = simp length-set h in
-    let both : take (2 * i + 1 + 1) (set (set bytes (2 * i) p) (2 * i + 1) q) ≡ (take (2 * i) bytes ++ p ∷ []) ++ q ∷ [] =
-    take_more_set (set bytes (2 * i) p) (2 * i + 1) q b ∙ ap (λ t. t ++ q ∷ []) (take_more_set bytes (2 * i) p a) in
-    let took : take (2 * (i + 1)) (set (set bytes (2 * i) p) (2 * i + 1) q) ≡ take (2 * i) bytes ++ p ∷ q ∷ [] =
-    ap (λ z. take z (set (set bytes (2 * i) p) (2 * i + 1) q)) (omega arith) ∙ both ∙ append_assoc (take (2 * i) bytes) (p ∷ []) (q ∷ []) in
-    let two' : pair_of x ≡ p ∷ q ∷ [] = pair_two x ∙ ap (λ t. get_or t 0 0 ∷ get_or t 1 0 ∷ []) (sym is) in
-    let next : flat_map pair_of (drop i body) ≡ p ∷ q ∷ rest = ap (flat_map pair_of) (drop_more body i None k) ∙ ap (λ t. pair_of t ++ rest) (sym read) ∙ ap (λ t. t ++ rest) two' in
-    ap (λ t. t ++ rest) took ∙ append_assoc (take (2 * i) bytes) (p ∷ q ∷ []) rest ∙ ap (λ t. take (2 * i) bytes ++ t) (sym next) ∙ so
+zero_pair : (t u r : Bool) → (cond t (cond u true false) false && r) ≡ cond t (cond u r false) false
+zero_pair true true r = refl
+zero_pair true false r = refl
+zero_pair false u r = refl
 
-pub body_step : (bs : List ℕ) (i : ℕ) → 2 * i + 1 < length bs → body_rule (drop (2 * i) bs) ≡ cond (is_some (literal_of (get_or bs (2 * i) 0) (get_or bs (2 * i + 1) 0))) (body_rule (drop (2 * (i + 1)) bs)) (all_are 0 (drop (2 * i) bs))
-body_step bs i h =
-    let go = two bs i h in
-    ap body_rule go ∙ ap (λ t. cond (is_some (literal_of (get_or bs (2 * i) 0) (get_or bs (2 * i + 1) 0))) (body_rule (drop (2 * (i + 1)) bs)) (all_are 0 t)) (sym go)
+zero_pairs : (n : ℕ) (bs : List ℕ) → length bs ≡ 2 * n → list_all (all_are 0) (first_chunks 2 n bs) ≡ all_are 0 bs
+zero_pairs zero [] l = refl
+zero_pairs zero (c ∷ bs) l = absurd (omega arith)
+zero_pairs (suc n) [] l = absurd (omega arith)
+zero_pairs (suc n) (c ∷ []) l = absurd (omega arith)
+zero_pairs (suc n) (c ∷ d ∷ bs) l = zero_pair (eqb c 0) (eqb d 0) _ ∙ ap (λ r. cond (eqb c 0) (cond (eqb d 0) r false) false) (zero_pairs n bs (omega arith))
+
+-- literals, and then zeros
+pub pairs_keep : (n : ℕ) (bs : List ℕ) → length bs ≡ 2 * n → list_all (all_are 0) (drop (prefix_len written (first_chunks 2 n bs)) (first_chunks 2 n bs)) ≡ body_rule bs
+pairs_keep zero [] l = refl
+pairs_keep zero (c ∷ bs) l = absurd (omega arith)
+pairs_keep (suc n) [] l = absurd (omega arith)
+pairs_keep (suc n) (c ∷ []) l = absurd (omega arith)
+pairs_keep (suc n) (c ∷ d ∷ bs) l =
+    let rest = first_chunks 2 n bs in
+    let pairs = (c ∷ d ∷ []) ∷ rest in
+    let one : 1 + prefix_len written rest ≡ suc (prefix_len written rest) = omega arith in
+    elim (is_some (literal_of c d)) as (λ t. list_all (all_are 0) (drop (cond t (1 + prefix_len written rest) 0) pairs) ≡ cond t (body_rule bs) (all_are 0 (c ∷ d ∷ bs))) [
+      | true ↦ ap (λ k. list_all (all_are 0) (drop k pairs)) one ∙ pairs_keep n bs (omega arith)
+      | false ↦ zero_pairs (suc n) (c ∷ d ∷ bs) l
+    ]

@@ -1,35 +1,20 @@
 -- What the judgement of a run says, in words: its count and no fault, its length, or its first faulty record.
-use Rattle.std.proofs.Common.{◌≡◌, ℕ, zero, suc, ◌+◌, ◌*◌, ◌/◌, ◌%◌, ◌<◌, ◌≤◌, Bool, true, false, cond, not, ◌||◌, List, length, take, drop, Some, None, Ok, Err, Option, Result, sym, refl, ap, ◌∙◌, ⊎_elim, arith, eqb-true}
-use Rattle.std.proofs.lemmas.Bool.{ltb-false, both_ways, cases_lt}
-use Rattle.std.proofs.lemmas.List.{drop-drop}
+use Rattle.std.proofs.Common.{◌≡◌, ℕ, zero, suc, ◌+◌, ◌/◌, ◌%◌, ◌<◌, ◌≤◌, true, false, cond, List, length, take, drop, Some, None, Ok, Err, Option, Result, sym, refl, ap, ◌∙◌, ⊎_elim, arith, eqb-true}
+use Rattle.std.proofs.lemmas.Bool.{or_parts, not-false, ltb-false, both_ways, cases_lt}
 use Rattle.records.specs.declared.fault.RecordFault.{RecordFault}
 use Rattle.records.specs.declared.run_fault.RunFault.{RunFault}
 use Rattle.records.specs.declared.run_fault.RunFault.TheVariants.{Memory, Run, Record}
-use Rattle.records.proofs.Runs.{good_run}
+use Rattle.records.proofs.Runs.{good_run, part_next}
 use Rattle.records.specs.Runs.{part, bad_run, Whole, RunIs, RunsJudged, counted, count_of, on_fault}
-
-or_parts : (a b : Bool) → (a || b) ≡ false → (a ≡ false) × (b ≡ false)
-or_parts false b h = (refl, h)
-or_parts true b h = absurd (both_ways true h refl)
-
-not_false : (b : Bool) → not b ≡ false → b ≡ true
-not_false true h = refl
-not_false false h = absurd (both_ways true h refl)
 
 pub good_parts : (bs : List ℕ) → bad_run bs ≡ false → (length bs % 48 ≡ 0) × (length bs / 48 ≤ 512)
 good_parts bs h =
     let p = or_parts _ _ h in
-    (eqb-true _ _ (not_false _ p.0), ltb-false 512 (length bs / 48) p.1)
+    (eqb-true _ _ (not-false _ p.0), ltb-false 512 (length bs / 48) p.1)
 
 -- a good length, in words
 whole : (bs : List ℕ) → bad_run bs ≡ false → Whole bs (length bs / 48)
 whole bs h = let g = good_parts bs h in (omega (arith, g.0), g.1)
-
--- the record after the first
-part_next : (bs : List ℕ) (j : ℕ) → part j (drop 48 bs) ≡ part (suc j) bs
-part_next bs j =
-    let far : 48 + 48 * j ≡ 48 * suc j = omega arith in
-    ap (take 48) (drop-drop (48 * j) 48 bs ∙ ap (λ z. drop z bs) far)
 
 module _ (fault : List ℕ → Option RecordFault) where
   below : (bs : List ℕ) (n : ℕ) → fault (take 48 bs) ≡ None → ((j : ℕ) → j < n → fault (part j (drop 48 bs)) ≡ None) → (j : ℕ) → j < suc n → fault (part j bs) ≡ None

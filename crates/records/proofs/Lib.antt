@@ -1,5 +1,6 @@
 pub mod Ascending
 pub mod Bodies
+pub mod Counting
 pub mod Judging
 pub mod Rewriting
 pub mod LiteralPlaces

@@ -1,14 +1,12 @@
 -- The rule of a body's bytes, said of its places.
 use Rattle.std.proofs.Common.{◌≡◌, ◌≢◌, ℕ, zero, suc, ◌<◌, Bool, true, false, cond, not, ◌&&◌, eqb, ltb, ◌⊎◌, List, [], ◌∷◌, length, get_or, is_some, Some, None, Option, sym, refl, ◌∙◌, subst, inl, inr, arith}
 use Rattle.std.proofs.lemmas.Bool.{false≢true, ltb-true, lt-ltb, eq-eqb, both_ways, and_from, not-true}
+use Rattle.std.proofs.lemmas.Option.{none-some}
 use Rattle.std.specs.List.{flat_map}
 use Rattle.records.specs.declared.literal.Literal.{Literal}
 use Rattle.records.specs.declared.literal.Literal.TheVariants.{Atom, NotAtom, Source, NotSource}
 use Rattle.records.specs.Faults.{all_are}
 use Rattle.records.specs.Literals.{pair_of, body_rule, Within, LiteralsFirst}
-
-none≢some : {l : Literal} → None ≡ Some l → ⊥
-none≢some e = let z : ◌≡◌ {A = ℕ} 0 1 = cc in omega arith
 
 -- zeros are unused places
 unused : (ps : List (Option Literal)) → all_are 0 (flat_map pair_of ps) ≡ true → (k : ℕ) → get_or ps k None ≡ None
@@ -48,14 +46,14 @@ first_back (Source n) ps w h = kept (ltb n 64) _ (Source n) (lt-ltb n 64 w) h
 first_back (NotSource n) ps w h = kept (ltb n 64) _ (NotSource n) (lt-ltb n 64 w) h
 
 within : (ps : List (Option Literal)) → body_rule (flat_map pair_of ps) ≡ true → (k : ℕ) (l : Literal) → get_or ps k None ≡ Some l → Within l
-within [] h k l e = absurd (none≢some e)
-within (None ∷ ps) h k l e = absurd (none≢some (sym (unused (None ∷ ps) h k) ∙ e))
+within [] h k l e = absurd (none-some l e)
+within (None ∷ ps) h k l e = absurd (none-some l (sym (unused (None ∷ ps) h k) ∙ e))
 within (Some m ∷ ps) h zero l e = let is : m ≡ l = cc in subst Within is (first m ps h).0
 within (Some m ∷ ps) h (suc k) l e = within ps (first m ps h).1 k l e
 
 before : (ps : List (Option Literal)) → body_rule (flat_map pair_of ps) ≡ true → (i j : ℕ) (l : Literal) → i < j → get_or ps j None ≡ Some l → is_some (get_or ps i None) ≡ true
-before [] h i j l lt e = absurd (none≢some e)
-before (None ∷ ps) h i j l lt e = absurd (none≢some (sym (unused (None ∷ ps) h j) ∙ e))
+before [] h i j l lt e = absurd (none-some l e)
+before (None ∷ ps) h i j l lt e = absurd (none-some l (sym (unused (None ∷ ps) h j) ∙ e))
 before (Some m ∷ ps) h zero j l lt e = refl
 before (Some m ∷ ps) h (suc i) zero l lt e = absurd (omega arith)
 before (Some m ∷ ps) h (suc i) (suc j) l lt e = before ps (first m ps h).1 i j l (omega arith) e

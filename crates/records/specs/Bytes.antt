@@ -1,15 +1,14 @@
 -- The fields of a list of bytes, and the bytes of a number.
-use Rattle.std.specs.Prelude.{◌≡◌, ℕ, ◌+◌, ◌*◌, ◌/◌, ◌%◌, ◌^◌, ◌<◌, ◌≤◌, Bool, true, false, cond, List, [], ◌∷◌, ◌++◌, length, take, drop, replicate, Ok, Err, ◌==◌, slice_index, refl}
-use Rattle.std.proofs.Common.{sym, ◌∙◌, ap, subst, arith, take-append-drop, eqb-true, mod-eq_of_lt, ⊎_elim}
-use Rattle.std.proofs.lemmas.List.{drop-drop, take_all, length-drop, length-take, get_or-take, get_or-drop, get_or_past, take_at, drop_at, append_assoc}
+use Rattle.std.specs.Prelude.{◌≡◌, ℕ, ◌+◌, ◌^◌, ◌<◌, ◌≤◌, Bool, true, false, cond, List, [], ◌∷◌, ◌++◌, length, take, drop, replicate, Ok, ◌==◌, slice_index, refl}
+use Rattle.std.proofs.Common.{sym, ◌∙◌, ap, arith, take-append-drop, eqb-true}
+use Rattle.std.proofs.lemmas.List.{drop-drop, take_all, length-drop, take_at, drop_at, append_assoc}
 use borrow.Rule.Slice.PartMut.{put_mid}
-use Rattle.std.proofs.lemmas.Nat.{mod-mul-add, div-mul-add}
-use Rattle.std.proofs.lemmas.Bool.{cases_lt, false≢true}
-use Rattle.records.specs.declared.fault.Flaw.{Flaw}
-use Rattle.records.specs.declared.fault.RecordFault.{RecordFault}
-use Rattle.records.specs.Faults.{fault_of, field_of, all_are, demanded}
+use Rattle.std.proofs.lemmas.Nat.{from_le_bytes-to_le_bytes_4}
+use Rattle.std.specs.Int.{from_le_bytes, w32}
+use Rattle.std.proofs.lemmas.Bool.{false≢true}
+use Rattle.records.specs.Faults.{field_of, all_are, demanded}
 use Rattle.records.specs.Numbers.{le4}
-use Rattle.records.specs.declared.fault.Flaw.TheVariants.{Letter, Form, Zero, Atoms, Body, Tail}
+use Rattle.records.specs.declared.fault.RecordFault.TheVariants.{Letter, Form, Zero, Atoms, Body, Tail}
 
 -- a field and what follows it
 next : (bs : List ℕ) (a n m : ℕ) → a + n ≡ m → take n (drop a bs) ++ drop m bs ≡ drop a bs
@@ -38,26 +37,9 @@ replicated b (x ∷ xs) h =
 pub replicated_at : (n b : ℕ) (xs : List ℕ) → length xs ≡ n → all_are b xs ≡ true → replicate n b ≡ xs
 replicated_at n b xs l h = ap (λ k. replicate k b) (sym l) ∙ replicated b xs h
 
--- the bytes of the number that four bytes write
-pub le4_bytes : (x y z w : ℕ) → x < 256 → y < 256 → z < 256 → w < 256 → le4 (x + y * 256 + z * 65536 + w * 16777216) ≡ x ∷ y ∷ z ∷ w ∷ []
-le4_bytes x y z w a b c d =
-    let n : ℕ = x + y * 256 + z * 65536 + w * 16777216 in
-    let p : n % 256 ≡ x = ap (λ t. t % 256) (omega arith) ∙ mod-mul-add (y + z * 256 + w * 65536) 256 x a in
-    let d1 : n / 256 ≡ y + z * 256 + w * 65536 = ap (λ t. t / 256) (omega arith) ∙ div-mul-add (y + z * 256 + w * 65536) 256 x a in
-    let q : n / 256 % 256 ≡ y = ap (λ t. t % 256) (d1 ∙ omega arith) ∙ mod-mul-add (z + w * 256) 256 y b in
-    let d2 : n / 65536 ≡ z + w * 256 = ap (λ t. t / 65536) (omega arith) ∙ div-mul-add (z + w * 256) 65536 (x + y * 256) (omega arith) in
-    let r : n / 65536 % 256 ≡ z = ap (λ t. t % 256) (d2 ∙ omega arith) ∙ mod-mul-add w 256 z c in
-    let d3 : n / 16777216 ≡ w = ap (λ t. t / 16777216) (omega arith) ∙ div-mul-add w 16777216 (x + y * 256 + z * 65536) (omega arith) in
-    let s : n / 16777216 % 256 ≡ w = ap (λ t. t % 256) d3 ∙ mod-eq_of_lt d in
-    cc
-
+-- a number is what its four bytes write
 pub le4_single : (m n : ℕ) → m < 2 ^ 32 → n < 2 ^ 32 → le4 m ≡ le4 n → m ≡ n
-le4_single m n h k e =
-    let p : m % 256 ≡ n % 256 = cc in
-    let q : m / 256 % 256 ≡ n / 256 % 256 = cc in
-    let r : m / 65536 % 256 ≡ n / 65536 % 256 = cc in
-    let s : m / 16777216 % 256 ≡ n / 16777216 % 256 = cc in
-    omega arith
+le4_single m n h k e = sym (from_le_bytes-to_le_bytes_4 m h) ∙ ap (from_le_bytes w32) e ∙ from_le_bytes-to_le_bytes_4 n k
 
 -- a list of four
 pub four : (xs : List ℕ) → length xs ≡ 4 → slice_index xs 0 ∷ slice_index xs 1 ∷ slice_index xs 2 ∷ slice_index xs 3 ∷ [] ≡ xs
@@ -68,24 +50,9 @@ four (a ∷ []) h = absurd (omega arith)
 four (a ∷ b ∷ []) h = absurd (omega arith)
 four (a ∷ b ∷ c ∷ []) h = absurd (omega arith)
 
-pub demanded_ok : (t : Bool) (f : Flaw) (u : Unit {0}) → demanded t f ≡ Ok u → t ≡ true
+pub demanded_ok : {E : Type 0} (t : Bool) (f : E) (u : Unit {0}) → demanded t f ≡ Ok u → t ≡ true
 demanded_ok true f u e = refl
 demanded_ok false f u e = let z : ◌≡◌ {A = ℕ} 0 1 = cc in absurd (omega arith)
-
-pub demanded_err : (t : Bool) (f : Flaw) (e : RecordFault) → demanded t f ≡ Err e → (t ≡ false) × (e ≡ fault_of f)
-demanded_err true f e h = let z : ◌≡◌ {A = ℕ} 0 1 = cc in absurd (omega arith)
-demanded_err false f e h = let is : e ≡ fault_of f = cc in (refl, is)
-
--- what four bytes of a slice write, and the bytes again
-pub le4_read : (xs : List ℕ) → length xs ≡ 4 → ((k : ℕ) → slice_index xs k < 256)
-    → le4 (slice_index xs 0 + slice_index xs 1 * 256 + slice_index xs 2 * 65536 + slice_index xs 3 * 16777216) ≡ xs
-le4_read xs l h = le4_bytes _ _ _ _ (h 0) (h 1) (h 2) (h 3) ∙ four xs l
-
-pub part_bytes : (xs : List ℕ) (a n : ℕ) → ((k : ℕ) → slice_index xs k < 256) → (k : ℕ) → slice_index (take n (drop a xs)) k < 256
-part_bytes xs a n h k = ⊎_elim
-    (λ (l : k < n). let P : ℕ → Type 0 = λ y. y < 256 in subst P (sym (get_or-take n (drop a xs) k 0 l ∙ get_or-drop a xs k 0)) (h (a + k)))
-    (λ (g : n ≤ k). let long : length (take n (drop a xs)) ≤ k = simp length-take (omega arith) in let P : ℕ → Type 0 = λ y. y < 256 in subst P (sym (get_or_past (take n (drop a xs)) k 0 long)) (omega arith))
-    (cases_lt k n)
 
 -- a write to the part that follows `front`
 pub put_after : (front rest ys : List ℕ) (a k : ℕ) → length front ≡ a → put_mid a k (front ++ rest) ys ≡ (front ++ ys) ++ drop k rest

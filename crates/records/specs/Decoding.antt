@@ -1,8 +1,6 @@
 -- Any kind of record: what a decoder answers after each of its two steps, the frame and its own tests.
-use Rattle.std.specs.Prelude.{◌≡◌, ℕ, Bool, true, not, List, is_some, Some, None, Ok, Err, Option, Result, refl}
+use Rattle.std.specs.Prelude.{◌≡◌, ℕ, Bool, List, Some, None, Ok, Err, Option, Result, refl}
 use Rattle.std.proofs.Common.{sym, ◌∙◌, ap, arith}
-use Rattle.std.proofs.lemmas.Bool.{false≢true}
-use Rattle.records.specs.declared.fault.Flaw.{Flaw}
 use Rattle.records.specs.declared.fault.RecordFault.{RecordFault}
 use Rattle.records.specs.declared.fields.Fields.{Fields}
 use Rattle.records.specs.Faults.{first_fault, unless, or_else}
@@ -17,21 +15,13 @@ pub unless_err : {A E : Type 0} (o : Option E) (x : A) (e : E) → unless o x �
 unless_err None x e h = let z : ◌≡◌ {A = ℕ} 0 1 = cc in absurd (omega arith)
 unless_err (Some d) x e h = cc
 
-pub none_from : {E : Type 0} (o : Option E) → not (is_some o) ≡ true → o ≡ None
-none_from None h = refl
-none_from (Some e) h = absurd (false≢true h)
-
 -- fields whose tests pass are a record without fault
-pub clean_by : (l m : ℕ) (tests : Fields → List (Bool × Flaw)) (f : Fields) → Long f → first_fault (tests f) ≡ None → fault_by l m tests (frame l m f) ≡ None
+pub clean_by : (l m : ℕ) (tests : Fields → List (Bool × RecordFault)) (f : Fields) → Long f → first_fault (tests f) ≡ None → fault_by l m tests (frame l m f) ≡ None
 clean_by l m tests f long e =
     ap (λ o. or_else o (first_fault (tests (fields_of (frame l m f))))) (frame_clean l m f long)
     ∙ ap (λ g. first_fault (tests g)) (frame_fields l m f long) ∙ e
 
-module _ (l m : ℕ) (tests : Fields → List (Bool × Flaw)) (bs : List ℕ) (r : Result Fields RecordFault) (read : r ≡ unless (frame_fault l m bs) (fields_of bs)) where
-  -- the frame is refused
-  pub frame_broke : (e : RecordFault) → r ≡ Err e → Some e ≡ fault_by l m tests bs
-  frame_broke e was = sym (ap (λ o. or_else o (first_fault (tests (fields_of bs)))) (unless_err _ _ e (sym read ∙ was)))
-
+module _ (l m : ℕ) (tests : Fields → List (Bool × RecordFault)) (bs : List ℕ) (r : Result Fields RecordFault) (read : r ≡ unless (frame_fault l m bs) (fields_of bs)) where
   module _ (f : Fields) (was : r ≡ Ok f) where
     kept : (frame_fault l m bs ≡ None) × (f ≡ fields_of bs)
     kept = unless_ok _ _ f (sym read ∙ was)
@@ -55,5 +45,5 @@ module _ (l m : ℕ) (tests : Fields → List (Bool × Flaw)) (bs : List ℕ) (r
     pub tests_kept : (q : Result (Unit {0}) RecordFault) → q ≡ unless (first_fault (tests f)) tt → (u : Unit {0}) → q ≡ Ok u → None ≡ fault_by l m tests bs
     tests_kept q is u ok = sym (unless_ok _ _ u (sym is ∙ ok)).0 ∙ tests_are
 
-pub all_passed : (ts : List (Bool × Flaw)) (q : Result (Unit {0}) RecordFault) (u : Unit {0}) → q ≡ unless (first_fault ts) tt → q ≡ Ok u → Passed ts
+pub all_passed : (ts : List (Bool × RecordFault)) (q : Result (Unit {0}) RecordFault) (u : Unit {0}) → q ≡ unless (first_fault ts) tt → q ≡ Ok u → Passed ts
 all_passed ts q u is ok = passed ts (unless_ok _ _ u (sym is ∙ ok)).0

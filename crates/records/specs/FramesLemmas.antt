@@ -3,13 +3,14 @@ use Rattle.std.specs.Prelude.{◌≡◌, ℕ, ◌≤◌, Bool, true, false, cond
 use Rattle.std.proofs.Math.Path.{refl}
 use Rattle.std.proofs.Common.{sym, ◌∙◌, ap, arith}
 use borrow.Author.Tests.{eqb-true, eq-eqb}
+use Rattle.std.proofs.lemmas.Bool.{cond-true}
 use borrow.Rule.Slice.PartMut.{put_mid}
 use Rattle.std.proofs.lemmas.List.{take_all, length-append, length-take, length-drop, take_at, drop_at, drop-drop, nil_from_length, append-nil, append_assoc}
-use Rattle.records.specs.declared.fault.Flaw.{Flaw}
-use Rattle.records.specs.declared.fault.Flaw.TheVariants.{Letter, Form, Zero, Atoms, Body, Tail}
+use Rattle.records.specs.declared.fault.RecordFault.{RecordFault}
+use Rattle.records.specs.declared.fault.RecordFault.TheVariants.{Letter, Form, Zero, Atoms, Body, Tail}
 use Rattle.records.specs.declared.fields.Fields.{Fields}
-use Rattle.records.specs.Faults.{field_of, first_fault, fault_of}
-use Rattle.records.specs.Frames.{frame, fields_of, frame_tests, frame_fault}
+use Rattle.records.specs.Faults.{field_of, first_fault}
+use Rattle.records.specs.Frames.{frame, fields_of, mark_tests, frame_tests, frame_fault}
 use Rattle.records.specs.Bytes.{whole, replicated_at, put_after}
 
 pub record Long (f : Fields) : Type 0 where
@@ -70,15 +71,20 @@ module _ (l m : ℕ) (f : Fields) (long : Long f) where
 pub frame_single : (l m : ℕ) (f g : Fields) → Long f → Long g → frame l m f ≡ frame l m g → f ≡ g
 frame_single l m f g x y e = sym (frame_fields l m f x) ∙ ap fields_of e ∙ frame_fields l m g y
 
+-- the faults of forty-eight bytes
+pub marks_left : (l m : ℕ) (bs : List ℕ) → length bs ≡ 48 → frame_fault l m bs ≡ first_fault (mark_tests l m bs)
+unfolding frame_fault
+marks_left l m bs h = cond-true _ _ _ (eq-eqb _ _ h)
+
 -- every test passed
-abbrev pub Passed : List (Bool × Flaw) → Type 0
+abbrev pub Passed : List (Bool × RecordFault) → Type 0
 Passed [] = Unit {0}
 Passed (t ∷ ts) = (t.0 ≡ true) × Passed ts
 
-pub passed : (ts : List (Bool × Flaw)) → first_fault ts ≡ None → Passed ts
+pub passed : (ts : List (Bool × RecordFault)) → first_fault ts ≡ None → Passed ts
 passed [] e = tt
 passed (t ∷ ts) e =
-    elim t.0 as (λ b. t.0 ≡ b → cond b (first_fault ts) (Some (fault_of t.1)) ≡ None → Passed (t ∷ ts)) [
+    elim t.0 as (λ b. t.0 ≡ b → cond b (first_fault ts) (Some t.1) ≡ None → Passed (t ∷ ts)) [
       | true ↦ λ h k. (h, passed ts k)
       | false ↦ λ h k. let z : ◌≡◌ {A = ℕ} 0 1 = cc in absurd (omega arith)
     ] refl e

@@ -1,9 +1,8 @@
 -- Plan records: letter C, form 0, no atom list, the marks and a label.
 use Rattle.std.specs.Prelude.{◌≡◌, ℕ, ◌^◌, ◌<◌, Bool, false, List, [], ◌∷◌, length, replicate, Option, nat_lt, slice_index}
 use Rattle.plans.specs.Bits.{bit_in}
-use Rattle.records.specs.declared.fault.Flaw.{Flaw}
-use Rattle.records.specs.declared.fault.Flaw.TheVariants.{Atoms, Body}
 use Rattle.records.specs.declared.fault.RecordFault.{RecordFault}
+use Rattle.records.specs.declared.fault.RecordFault.TheVariants.{Atoms, Body}
 use Rattle.records.specs.declared.fields.Fields.{Fields}
 use Rattle.records.specs.declared.plan.Plan.{Plan}
 use Rattle.records.specs.Numbers.{le4}
@@ -17,7 +16,7 @@ abbrev pub plan_image : Plan → List ℕ
 plan_image p = frame 67 0 (plan_fields p)
 
 -- bit 255 is no atom's
-abbrev pub plan_tests : Fields → List (Bool × Flaw)
+abbrev pub plan_tests : Fields → List (Bool × RecordFault)
 plan_tests f = (all_are 255 f.atoms, Atoms) ∷ (nat_lt (slice_index f.body 31) 128, Body) ∷ []
 
 abbrev pub plan_fault : List ℕ → Option RecordFault

@@ -1,9 +1,8 @@
 -- Rule records: letter R, form 0, a head, a body of literals and a label.
 use Rattle.std.specs.Prelude.{◌≡◌, ◌≢◌, ℕ, ◌^◌, ◌<◌, Bool, true, not, ◌&&◌, ◌⊎◌, List, [], ◌∷◌, length, is_some, None, Option, ◌==◌, slice_index, slice_index_or}
 use Rattle.std.specs.List.{flat_map}
-use Rattle.records.specs.declared.fault.Flaw.{Flaw}
-use Rattle.records.specs.declared.fault.Flaw.TheVariants.{Atoms, Body, Empty}
 use Rattle.records.specs.declared.fault.RecordFault.{RecordFault}
+use Rattle.records.specs.declared.fault.RecordFault.TheVariants.{Atoms, Body, Empty}
 use Rattle.records.specs.declared.fields.Fields.{Fields}
 use Rattle.records.specs.declared.literal.Literal.{Literal}
 use Rattle.records.specs.declared.rule.Rule.{Rule}
@@ -19,7 +18,7 @@ abbrev pub rule_image : Rule → List ℕ
 rule_image r = frame 82 0 (rule_fields r.head r.body r.label)
 
 -- the last test: a head atom or a literal
-abbrev pub rule_tests : Fields → List (Bool × Flaw)
+abbrev pub rule_tests : Fields → List (Bool × RecordFault)
 rule_tests f =
     (ascends 0 f.atoms, Atoms) ∷
     (body_rule f.body, Body) ∷

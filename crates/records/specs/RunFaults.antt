@@ -1,9 +1,7 @@
 -- The faults of a file: layer, number and byte of each, and the place of the record that it is of.
-use Rattle.std.specs.Prelude.{ℕ, Some, None, Ok, Err, Option, Result}
+use Rattle.std.specs.Prelude.{ℕ, Some, None, Option}
 use Rattle.records.specs.declared.fault.Layer.TheVariants as layer
 use Rattle.records.specs.declared.fault.Named.{Named}
-use Rattle.records.specs.declared.fault.RecordFault.{RecordFault}
-use Rattle.records.specs.declared.run_fault.Placed.{Placed}
 use Rattle.records.specs.declared.run_fault.RunFault.{RunFault}
 use Rattle.records.specs.declared.run_fault.RunFault.TheVariants.{Memory, Run, Record}
 use Rattle.records.specs.Faults.{fault_name}
@@ -19,7 +17,3 @@ abbrev pub place_of : RunFault → ℕ
 place_of Memory = 0
 place_of Run = 0
 place_of (Record p) = p.place
-
-abbrev pub placed_at : {A : Type 0} → ℕ → Result A RecordFault → Result A Placed
-placed_at k (Ok x) = Ok x
-placed_at k (Err e) = Err (record { fault = e; place = k })

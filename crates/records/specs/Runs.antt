@@ -2,6 +2,7 @@
 use Rattle.std.specs.Prelude.{◌≡◌, ℕ, zero, suc, ◌+◌, ◌*◌, ◌/◌, ◌%◌, ◌<◌, ◌≤◌, Bool, true, false, cond, not, ◌&&◌, ◌||◌, List, length, take, drop, IfOk, Some, None, Ok, Err, vec_items, Option, Result, Vec, ◌==◌, nat_lt}
 use Rattle.records.specs.Faults.{fault_in}
 use Rattle.std.specs.List.{flat_map}
+use Rattle.std.specs.Simd.{first_chunks}
 use Rattle.std.specs.declared.alloc.Global.{Global}
 use Rattle.records.specs.declared.fault.RecordFault.{RecordFault}
 use Rattle.records.specs.declared.run_fault.Placed.{Placed}
@@ -15,6 +16,10 @@ part k bs = take 48 (drop (48 * k) bs)
 -- not whole records, or above 512 of them
 abbrev pub bad_run : List ℕ → Bool
 bad_run bs = not (length bs % 48 == 0) || nat_lt 512 (length bs / 48)
+
+-- the records of a run, one after another
+abbrev pub records_in : List ℕ → List (List ℕ)
+records_in bs = first_chunks 48 (length bs / 48) bs
 
 -- the record at a place has a fault, and those before it have none
 pub record FirstFault (fault : List ℕ → Option RecordFault) (bs : List ℕ) (p : Placed) : Type 0 where

@@ -1,15 +1,15 @@
 -- A record and a run, read and written again: the bytes stay.
 use Rattle.std.specs.Prelude.{◌≡◌, ℕ, cond, ◌⊎◌, List, length, Some, None, Ok, Err, Option, Result, ◌==◌, ◌≢◌}
-use Rattle.records.specs.declared.fault.Flaw.TheVariants.{Size}
+use Rattle.records.specs.declared.fault.RecordFault.TheVariants.{Size}
 use Rattle.records.specs.declared.fault.RecordFault.{RecordFault}
 use Rattle.records.specs.declared.run_fault.RunFault.{RunFault}
 use Rattle.records.specs.declared.run_fault.RunFault.TheVariants.{Memory, Run, Record}
-use Rattle.records.specs.Faults.{fault_in, fault_of}
+use Rattle.records.specs.Faults.{fault_in}
 use Rattle.records.specs.Runs.{count_of}
 
 -- a place that does not have a record's length
 abbrev pub size_fault : List ℕ → Option RecordFault
-size_fault place = cond (length place == 48) None (Some (fault_of Size))
+size_fault place = cond (length place == 48) None (Some Size)
 
 -- the new bytes, or the old ones where there was a refusal
 abbrev pub kept_if : {E : Type 0} → Result (Unit {0}) E → List ℕ → List ℕ → List ℕ

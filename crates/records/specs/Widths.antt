@@ -1,9 +1,7 @@
 -- Lists that are written one item after another, each at the same width: records in a run, literals, numbers.
-use Rattle.std.specs.Prelude.{◌≡◌, ℕ, suc, ◌+◌, ◌*◌, ◌<◌, ◌≤◌, List, [], ◌∷◌, ◌++◌, length, take, drop, slice_index_or, refl}
+use Rattle.std.specs.Prelude.{◌≡◌, ℕ, suc, ◌+◌, ◌*◌, ◌<◌, List, [], ◌∷◌, ◌++◌, length, take, drop, refl}
 use Rattle.std.proofs.Common.{sym, ◌∙◌, ap, mul-add, add-one, arith, take-add}
-use borrow.Rule.Slice.PartMut.{put_mid}
-use Rattle.std.proofs.lemmas.Slice.{take-put_mid}
-use Rattle.std.proofs.lemmas.List.{flat_map_more, take_more, take_at, drop_at, length-append}
+use Rattle.std.proofs.lemmas.List.{flat_map_more, take_at, drop_at, length-append}
 use Rattle.std.specs.List.{flat_map}
 
 one_more : (w k : ℕ) → w * suc k ≡ w + w * k
@@ -36,12 +34,3 @@ module _ {A : Type 0} (f : A → List ℕ) (w : ℕ) (size : (v : A) → length 
   read_more xs v bs k so is =
       let step : take (w * (k + 1)) bs ≡ take (w * k) bs ++ take w (drop (w * k) bs) = ap (λ z. take z bs) (omega (arith, mul-add w k 1)) ∙ take-add (w * k) w bs in
       sym (flat_map_more f [] xs v) ∙ ap (λ t. t ++ f v) so ∙ ap (λ t. take (w * k) bs ++ t) is ∙ sym step
-
-  -- one item more is written
-  pub write_more : (values : List A) (place im : List ℕ) (i k : ℕ) (v : A) → i < length values → v ≡ slice_index_or values i v → w * i ≤ length place → im ≡ f v
-      → take (w * i) place ≡ flat_map f (take i values) → take (w * (i + 1)) (put_mid (w * i) k place im) ≡ flat_map f (take (i + 1) values)
-  write_more values place im i k v lt read room is so =
-      let long : w * (i + 1) ≡ w * i + length im = omega (arith, ap length is, size v, mul-add w i 1) in
-      let took : take (w * (i + 1)) (put_mid (w * i) k place im) ≡ take (w * i) place ++ im = take-put_mid (w * i) k place im (w * (i + 1)) long room in
-      let more : take (i + 1) values ≡ take i values ++ v ∷ [] = take_more values i v lt ∙ ap (λ y. take i values ++ y ∷ []) (sym read) in
-      took ∙ ap (λ t. t ++ im) so ∙ ap (λ t. flat_map f (take i values) ++ t) is ∙ flat_map_more f [] (take i values) v ∙ ap (flat_map f) (sym more)

@@ -6,14 +6,7 @@ ghost use Rattle.records.specs.Atoms.{ascends, used, ListsStand, UsedFirst};
 pub fn atoms_ascend(list: &[u8]) -> bool
     ensures { result ≡ ascends 0 list.now }
 {
-    let mut low: u8 = 0;
-    for x in list {
-        if *x < low {
-            return false;
-        }
-        low = if *x < 255 { *x + 1 } else { 255 };
-    }
-    true
+    list.is_sorted_by(|low, x| *low < *x || *x == 255)
 }
 
 // How many places are used.
@@ -21,19 +14,11 @@ pub fn used_places(list: &[u8]) -> usize
     ensures count { result ≡ used list.now }
     ensures few { result ≤ length list.now }
 {
-    let mut count = 0;
-    for x in list {
-        if *x < 255 {
-            count += 1;
-        }
-    }
-    count
+    list.iter().filter(|x| **x < 255).count()
 }
 
 // What the test of a list says of its places.
-pub fn lists_stand() -> u8
+pub fn lists_stand()
     ensures same { ListsStand }
     ensures first { UsedFirst }
-{
-    0
-}
+{}

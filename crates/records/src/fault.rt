@@ -1,10 +1,10 @@
 // Faults of a record, and the one table of the fields that they name.
 ghost use Rattle.std.specs.Prelude.{◌≡◌, length};
-ghost use Rattle.records.specs.Faults.{name_of, length_of, fault_of, fault_name, field_of, all_are, demanded, first_fault, unless};
+ghost use Rattle.records.specs.Faults.{fault_name, length_of, field_of, all_are, demanded};
 
-// What is wrong with a record. The numbers are the faults'.
+// What is wrong with a record, with the fault's number.
 #[derive(Clone, Copy, Debug, PartialEq, Eq)]
-pub enum Flaw {
+pub enum RecordFault {
     Size = 1,
     Letter,
     Form,
@@ -32,12 +32,6 @@ pub struct Named {
     pub byte: usize,
 }
 
-#[derive(Clone, Copy, Debug, PartialEq, Eq)]
-pub struct RecordFault {
-    pub flaw: Flaw,
-    pub byte: usize,
-}
-
 #[derive(Clone, Copy)]
 struct Span {
     start: usize,
@@ -57,16 +51,16 @@ const FIELDS: [Span; 9] = [
     Span { start: 4, len: 8 },
 ];
 
-fn span_of(flaw: Flaw) -> Span
-    ensures start { result.start ≡ (name_of flaw).byte }
-    ensures len { result.len ≡ length_of flaw }
+fn span_of(fault: RecordFault) -> Span
+    ensures start { result.start ≡ (fault_name fault).byte }
+    ensures len { result.len ≡ length_of fault }
 {
-    FIELDS[flaw as usize]
+    FIELDS[fault as usize]
 }
 
-impl Flaw {
+impl RecordFault {
     pub fn named(self) -> Named
-        ensures { result ≡ name_of self }
+        ensures { result ≡ fault_name self }
     {
         let byte = span_of(self).start;
         Named {
@@ -75,37 +69,14 @@ impl Flaw {
             byte,
         }
     }
-
-    pub fn fault(self) -> RecordFault
-        ensures { result ≡ fault_of self }
-    {
-        RecordFault {
-            flaw: self,
-            byte: span_of(self).start,
-        }
-    }
 }
 
-impl RecordFault {
-    pub fn named(self) -> Named
-        ensures { result ≡ fault_name self }
-    {
-        let of_flaw = self.flaw.named();
-        Named {
-            layer: of_flaw.layer,
-            number: of_flaw.number,
-            byte: self.byte,
-        }
-    }
-}
-
-// The bytes of the field that a flaw names.
-pub(crate) fn part_of(bytes: &[u8], flaw: Flaw) -> &[u8]
-    requires { length bytes.now ≡ 48 }
-    ensures part { result.now ≡ field_of flaw bytes.now }
-    ensures len { length result.now ≡ length_of flaw }
+// The bytes of the field that a fault names.
+pub(crate) fn part_of(bytes: &[u8; 48], fault: RecordFault) -> &[u8]
+    ensures part { result.now ≡ field_of fault bytes.now }
+    ensures len { length result.now ≡ length_of fault }
 {
-    let span = span_of(flaw);
+    let span = span_of(fault);
     let start = span.start;
     let end = start + span.len;
     &bytes[start..end]
@@ -115,30 +86,19 @@ pub(crate) fn part_of(bytes: &[u8], flaw: Flaw) -> &[u8]
 pub fn all_are(bytes: &[u8], b: u8) -> bool
     ensures { result ≡ all_are b bytes.now }
 {
-    for x in bytes {
-        if *x != b {
-            return false;
-        }
-    }
-    true
+    bytes.iter().all(|x| *x == b)
 }
 
-// The fault of a flaw, unless its field keeps its rule.
-pub fn demand(ok: bool, flaw: Flaw) -> Result<(), RecordFault>
-    ensures { result ≡ demanded ok flaw }
+// The fault, unless a rule is kept.
+pub fn demand<E: Drop>(ok: bool, fault: E) -> Result<(), E>
+    ensures { result ≡ demanded ok fault }
 {
-    if ok { Ok(()) } else { Err(flaw.fault()) }
+    if ok { Ok(()) } else { Err(fault) }
 }
 
-// The fault of the first test that fails.
-pub fn check_tests(tests: &[(bool, Flaw)]) -> Result<(), RecordFault>
-    ensures { result ≡ unless (first_fault tests.now) tt }
+// The fault, unless each byte of its field is b.
+pub(crate) fn demand_all(bytes: &[u8; 48], fault: RecordFault, b: u8) -> Result<(), RecordFault>
+    ensures { result ≡ demanded (all_are b (field_of fault bytes.now)) fault }
 {
-    for i in 0..tests.len() {
-        let (ok, flaw) = tests[i];
-        if !ok {
-            return Err(flaw.fault());
-        }
-    }
-    Ok(())
+    demand(all_are(part_of(bytes, fault), b), fault)
 }

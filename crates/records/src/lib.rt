@@ -29,7 +29,7 @@ pub mod round_trip;
 pub mod run;
 
 pub use atoms::lists_stand;
-pub use fault::{Flaw, Layer, Named, RecordFault};
+pub use fault::{Layer, Named, RecordFault};
 pub use literal::Literal;
 pub use plan::Plan;
 pub use plan_record::{PlanRecord, plans_allowed};
@@ -39,6 +39,7 @@ pub use row::RuleRow;
 pub use rule::Rule;
 pub use rule_record::{RuleRecord, bodies_stand, literals_stand, rules_allowed};
 pub use run::{
-    check_run, decoding_decided, read_back, read_run, runs_judged, runs_stand, write_run,
+    check_run, decoding_decided, read_back, read_run, records_of, runs_judged, runs_stand,
+    write_run,
 };
 pub use run_fault::{Placed, RunFault};

@@ -4,6 +4,7 @@ ghost use Rattle.std.specs.List.{flat_map};
 ghost use Rattle.records.specs.Literals.{literal_of, pair_of, body_of, body_rule};
 
 use crate::fault::all_are;
+use std::array;
 
 #[derive(Clone, Copy, Debug, PartialEq, Eq)]
 pub enum Literal {
@@ -13,15 +14,24 @@ pub enum Literal {
     NotSource(u8),
 }
 
-// The literal that a code and a number write, if they do.
+// The codes of the literals. No literal has the code 0.
+const ATOM: u8 = 1;
+
+const NOT_ATOM: u8 = 2;
+
+const SOURCE: u8 = 3;
+
+const NOT_SOURCE: u8 = 4;
+
+// The literal that a code and a number write, if they do. A TryFrom would be no plainer: nothing reads an error of it, and None is a place as good as any.
 fn read_literal(code: u8, number: u8) -> Option<Literal>
     ensures { result ≡ literal_of code number }
 {
     match code {
-        1 if number < 255 => Some(Literal::Atom(number)),
-        2 if number < 255 => Some(Literal::NotAtom(number)),
-        3 if number < 64 => Some(Literal::Source(number)),
-        4 if number < 64 => Some(Literal::NotSource(number)),
+        ATOM if number < 255 => Some(Literal::Atom(number)),
+        NOT_ATOM if number < 255 => Some(Literal::NotAtom(number)),
+        SOURCE if number < 64 => Some(Literal::Source(number)),
+        NOT_SOURCE if number < 64 => Some(Literal::NotSource(number)),
         _ => None,
     }
 }
@@ -31,10 +41,10 @@ fn pair_of(place: Option<Literal>) -> [u8; 2]
 {
     match place {
         None => [0, 0],
-        Some(Literal::Atom(n)) => [1, n],
-        Some(Literal::NotAtom(n)) => [2, n],
-        Some(Literal::Source(n)) => [3, n],
-        Some(Literal::NotSource(n)) => [4, n],
+        Some(Literal::Atom(n)) => [ATOM, n],
+        Some(Literal::NotAtom(n)) => [NOT_ATOM, n],
+        Some(Literal::Source(n)) => [SOURCE, n],
+        Some(Literal::NotSource(n)) => [NOT_SOURCE, n],
     }
 }
 
@@ -42,34 +52,23 @@ fn pair_of(place: Option<Literal>) -> [u8; 2]
 pub(crate) fn read_body(bytes: &[u8; 32]) -> [Option<Literal>; 16]
     ensures { result ≡ body_of bytes.now }
 {
-    let mut body = [None; 16];
-    for i in 0..16 {
-        body[i] = read_literal(bytes[2 * i], bytes[2 * i + 1]);
-    }
-    body
+    array::from_fn(|i| read_literal(bytes[2 * i], bytes[2 * i + 1]))
 }
 
 pub(crate) fn body_bytes(body: &[Option<Literal>; 16]) -> [u8; 32]
     ensures { result ≡ flat_map pair_of body.now }
 {
-    let mut bytes = [0; 32];
-    for i in 0..16 {
-        let pair = pair_of(body[i]);
-        bytes[2 * i] = pair[0];
-        bytes[2 * i + 1] = pair[1];
-    }
-    bytes
+    let pairs = body.map(pair_of);
+    *pairs.as_flattened().as_array().unwrap()
 }
 
 // Whether the bytes are literals, and then nothing.
 pub(crate) fn body_keeps(bytes: &[u8; 32]) -> bool
     ensures { result ≡ body_rule bytes.now }
 {
-    for i in 0..16 {
-        let start = 2 * i;
-        if let None = read_literal(bytes[start], bytes[start + 1]) {
-            return all_are(&bytes[start..32], 0);
-        }
-    }
-    true
+    let (pairs, _) = bytes.as_chunks::<2>();
+    pairs
+        .iter()
+        .skip_while(|pair| read_literal(pair[0], pair[1]).is_some())
+        .all(|pair| all_are(pair, 0))
 }

@@ -3,7 +3,7 @@ ghost use Rattle.records.specs.Plans.{plan_image, plan_fault, PlansAllowed};
 ghost use Rattle.records.specs.PlansLemmas.{plan_size, plan_clean, plan_single};
 ghost use Rattle.std.proofs.Common.{rules};
 
-use crate::fault::{Flaw, RecordFault, all_are, demand};
+use crate::fault::{RecordFault, all_are, demand};
 use crate::fields::{Fields, number_of, read_frame, write_frame};
 use crate::plan::Plan;
 use crate::record::Record;
@@ -14,9 +14,9 @@ pub struct PlanRecord;
 impl Record for PlanRecord {
     const LETTER: char = 'C';
 
-    type Decoded = Plan;
+    ghost LETTER = { 67 };
 
-    ghost letter = { 67 };
+    type Decoded = Plan;
 
     ghost image = { plan_image };
 
@@ -30,18 +30,12 @@ impl Record for PlanRecord {
 
     ghost single = { λ v w e. plan_single v w e };
 
-    fn own_letter() -> char {
-        Self::LETTER
-    }
-
     fn decode(bytes: &[u8]) -> Result<Plan, RecordFault> {
         let fields = read_frame(bytes, Self::LETTER as u8, 0)?;
-        demand(all_are(&fields.atoms, 255), Flaw::Atoms)?;
+        demand(all_are(&fields.atoms, 255), RecordFault::Atoms)?;
         let label = number_of(&fields.tail);
-        match AtomSet::new(fields.body) {
-            Some(marks) => Ok(Plan { marks, label }),
-            None => Err(Flaw::Body.fault()),
-        }
+        let marks = AtomSet::new(fields.body).ok_or(RecordFault::Body)?;
+        Ok(Plan { marks, label })
     }
 
     fn encode(value: &Plan, place: &mut [u8]) -> Result<(), RecordFault> {
@@ -61,8 +55,6 @@ impl Record for PlanRecord {
 }
 
 // What every plan is, said of its marks.
-pub fn plans_allowed() -> u8
+pub fn plans_allowed()
     ensures { PlansAllowed }
-{
-    0
-}
+{}

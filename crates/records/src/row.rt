@@ -1,59 +1,42 @@
 // A plain row, and the rule that is made from it after a check.
-ghost use Rattle.std.specs.Prelude.{◌≡◌, true};
-ghost use Rattle.records.specs.Rows.{row_of, row_stands, RuleOf};
+ghost use Rattle.std.specs.Prelude.{◌≡◌};
+ghost use Rattle.records.specs.Faults.{fault_in};
+ghost use Rattle.records.specs.Rows.{row_of, row_fault, RuleOf};
 
+use crate::fault::RecordFault;
 use crate::literal::Literal;
 use crate::rule::Rule;
 use crate::rule_record::{check_rule, rule_fields};
 
-#[derive(Clone, Copy)]
+// Without the ghost fields of a rule, so that a table of rows changes in place.
+#[derive(Clone, Copy, Debug, PartialEq, Eq)]
 pub struct RuleRow {
     pub head: [u8; 8],
     pub body: [Option<Literal>; 16],
     pub label: u32,
 }
 
-impl RuleRow {
-    pub fn of(rule: &Rule) -> RuleRow
-        ensures { result ≡ row_of rule.now }
-    {
-        let head = rule.head;
-        let body = rule.body;
+impl From<&Rule> for RuleRow {
+    ghost from_gives = { λ rule row. row ≡ row_of rule.now };
+
+    fn from(rule: &Rule) -> RuleRow {
         RuleRow {
-            head,
-            body,
+            head: rule.head,
+            body: rule.body,
             label: rule.label,
         }
     }
+}
 
-    // Whether the row keeps the rules of a rule record.
-    fn stands(&self) -> bool
-        ensures { result ≡ row_stands self.now }
-    {
-        match check_rule(&rule_fields(&self.head, &self.body, self.label)) {
-            Ok(()) => true,
-            Err(_) => false,
-        }
-    }
+// Refused where the row breaks the rules of a rule record.
+impl TryFrom<RuleRow> for Rule {
+    type Error = RecordFault;
 
-    fn kept(self) -> Rule
-        requires { row_stands self ≡ true }
-        ensures { row_of result ≡ self }
-    {
-        let head = self.head;
-        let body = self.body;
-        let label = self.label;
-        Rule { head, body, label }
-    }
+    ghost try_from_gives = { λ row rule. RuleOf row rule × (fault_in rule ≡ row_fault row) };
 
-    // None where the row breaks the rules of a rule record.
-    pub fn rule(self) -> Option<Rule>
-        ensures { RuleOf self result }
-    {
-        if self.stands() {
-            Some(self.kept())
-        } else {
-            None
-        }
+    fn try_from(row: RuleRow) -> Result<Rule, RecordFault> {
+        let RuleRow { head, body, label } = row;
+        check_rule(&rule_fields(&head, &body, label))?;
+        Ok(Rule { head, body, label })
     }
 }

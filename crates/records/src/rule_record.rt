@@ -6,7 +6,7 @@ ghost use Rattle.records.specs.RulesLemmas.{rule_size, rule_clean, rule_single};
 ghost use Rattle.std.proofs.Common.{rules};
 
 use crate::atoms::atoms_ascend;
-use crate::fault::{Flaw, RecordFault, check_tests};
+use crate::fault::{RecordFault, demand};
 use crate::fields::{Fields, number_of, read_frame, write_frame};
 use crate::literal::{Literal, body_bytes, body_keeps, read_body};
 use crate::record::Record;
@@ -19,11 +19,9 @@ pub(crate) fn check_rule(fields: &Fields) -> Result<(), RecordFault>
     ensures { result ≡ unless (first_fault (rule_tests fields.now)) tt }
 {
     let empty = (fields.atoms[0] == 255) & (fields.body[0] == 0);
-    check_tests(&[
-        (atoms_ascend(&fields.atoms), Flaw::Atoms),
-        (body_keeps(&fields.body), Flaw::Body),
-        (!empty, Flaw::Empty),
-    ])
+    demand(atoms_ascend(&fields.atoms), RecordFault::Atoms)?;
+    demand(body_keeps(&fields.body), RecordFault::Body)?;
+    demand(!empty, RecordFault::Empty)
 }
 
 pub(crate) fn rule_fields(head: &[u8; 8], body: &[Option<Literal>; 16], label: u32) -> Fields
@@ -39,9 +37,9 @@ pub(crate) fn rule_fields(head: &[u8; 8], body: &[Option<Literal>; 16], label: u
 impl Record for RuleRecord {
     const LETTER: char = 'R';
 
-    type Decoded = Rule;
+    ghost LETTER = { 82 };
 
-    ghost letter = { 82 };
+    type Decoded = Rule;
 
     ghost image = { rule_image };
 
@@ -54,10 +52,6 @@ impl Record for RuleRecord {
     ghost clean = { λ v. rule_clean v };
 
     ghost single = { λ v w e. rule_single v w e };
-
-    fn own_letter() -> char {
-        Self::LETTER
-    }
 
     fn decode(bytes: &[u8]) -> Result<Rule, RecordFault> {
         let fields = read_frame(bytes, Self::LETTER as u8, 0)?;
@@ -75,22 +69,16 @@ impl Record for RuleRecord {
 }
 
 // What the bytes of a rule's body allow, said of its literals.
-pub fn bodies_stand() -> u8
+pub fn bodies_stand()
     ensures { BodiesStand }
-{
-    0
-}
+{}
 
 // The test of a body's bytes, said of its places, both ways.
-pub fn literals_stand() -> u8
+pub fn literals_stand()
     ensures { LiteralsStand }
-{
-    0
-}
+{}
 
 // What every rule is, said of its atoms and its literals.
-pub fn rules_allowed() -> u8
+pub fn rules_allowed()
     ensures { RulesAllowed }
-{
-    0
-}
+{}

@@ -1,6 +1,6 @@
 // Faults of a file: of its length, of one of its records, or for want of memory.
 ghost use Rattle.std.specs.Prelude.{◌≡◌};
-ghost use Rattle.records.specs.RunFaults.{run_fault_name, place_of, placed_at};
+ghost use Rattle.records.specs.RunFaults.{run_fault_name, place_of};
 ghost use Rattle.records.specs.declared.run_fault.RunFault.TheVariants.{Memory, Record};
 
 use crate::fault::{Layer, Named, RecordFault};
@@ -68,15 +68,5 @@ impl<T: Drop> From<AllocFailed<T>> for RunFault {
 
     fn from(_refused: AllocFailed<T>) -> RunFault {
         Self::Memory
-    }
-}
-
-// Names the place of the record that a result is of.
-pub fn at_place<T>(r: Result<T, RecordFault>, place: usize) -> Result<T, Placed>
-    ensures { result ≡ placed_at place r }
-{
-    match r {
-        Ok(x) => Ok(x),
-        Err(fault) => Err(Placed { fault, place }),
     }
 }

@@ -6,7 +6,7 @@ ghost use Rattle.rulebook.specs.BookFaults.{book_name};
 use records::{Layer, Named, RecordFault};
 use std::alloc::AllocFailed;
 
-#[derive(Clone, Copy)]
+#[derive(Clone, Copy, Debug, PartialEq, Eq)]
 pub enum BookFault {
     Memory,
     Record(RecordFault),

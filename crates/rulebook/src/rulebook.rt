@@ -34,7 +34,7 @@ impl Rulebook {
         if self.rows.len() >= BOOK_LIMIT {
             return Err(BookFault::Full);
         }
-        self.rows.push(RuleRow::of(&rule))?;
+        self.rows.push(RuleRow::from(&rule))?;
         Ok(())
     }
 
@@ -42,11 +42,8 @@ impl Rulebook {
     pub fn label(&self, number: usize) -> Option<u32>
         ensures { MatchOption result (vec_len self.now.rows ≤ number) (λ l. (number < vec_len self.now.rows) × (l ≡ (slice_index_or (rules_of self.now.rows.items) number no_rule).label)) }
     {
-        if number < self.rows.len() {
-            Some(self.rows[number].label)
-        } else {
-            None
-        }
+        let row = self.rows.get(number)?;
+        Some(row.label)
     }
 
     // The rules in the order of their numbers.

@@ -6,7 +6,7 @@ use mathlib.Core.Option.{Option, none, some}
 use Prim.Native.Nat.{ℕ, zero, suc, ◌≤◌}
 use native.Mathlib.Omega.{arith}
 use lib.Dec.{ltb}
-use borrow.Author.Tests.{ltb-false}
+use Rattle.std.proofs.lemmas.Bool.{ltb-false}
 use Rattle.semantics.specs.Program.{Interp, Subset, atom_limit, Rule, Meaning}
 use Rattle.semantics.specs.Judge.{Verdict, stands, broken, unfounded, judge, seek, first_broken, unfounded_test}
 use Rattle.semantics.specs.Check.{Checked, fault, answered, checked, sources_known, search_limit, size_below, CheckJudges, NamedFew}

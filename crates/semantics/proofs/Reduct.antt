@@ -2,12 +2,12 @@
 -- A search may then look for the atoms that stay in place of those that go. Assumes nothing.
 use mathlib.Core.Path.{◌≡◌, refl, ap}
 use mathlib.Core.Bool.{Bool, true, false, not, ◌&&◌, ◌||◌, true≢false, false≢true}
-use mathlib.Core.Logic.{◌↔◌}
 use mathlib.Core.List.{List, [], ◌∷◌}
-use mathlib.Core.Logic.{◌⊎◌, inl, inr}
+use mathlib.Core.Logic.{◌↔◌, ◌⊎◌, inl, inr}
 use Prim.Native.Nat.{ℕ}
+use Rattle.std.proofs.lemmas.Bool.{cases_Bool, and_parts, and_right, or_left, or_right, or_cases}
 use Rattle.semantics.specs.Program.{Interp, Rule, Meaning, any, keep, body_true, satisfied, Model, Subset, ◌∖◌, Excused, false_here, false_without, other_head, Unfounded}
-use Rattle.semantics.proofs.Facts.{way, clash, left, or_left, or_right, or_ways, each_map, each_map₂, kept_from, kept_to}
+use Rattle.semantics.proofs.Facts.{clash, each_map, each_map₂, kept_from, kept_to}
 
 -- the rules whose whole body the interpretation makes true
 abbrev pub reduct : Meaning → Interp → List Rule → List Rule
@@ -36,7 +36,7 @@ module _ (m : Meaning) (I X : Interp) (r : Rule) where
       meets t x = elim (ok x) [ false_here e ↦ clash b e | false_without e ↦ clash t e | other_head e ↦ e ]
 
       some_head : any I r.head ≡ true
-      some_head = elim (or_ways (not (body_true m I r)) (any I r.head) sat) [ inl e ↦ clash e (ap not b) | inr e ↦ e ]
+      some_head = elim (or_cases (not (body_true m I r)) (any I r.head) sat) [ inl e ↦ clash e (ap not b) | inr e ↦ e ]
 
       go : (t : Bool) → body_true m (I ∖ X) r ≡ t → (not (body_true m (I ∖ X) r) || any (I ∖ X) r.head) ≡ true
       go false e = or_left _ _ (ap not e)
@@ -44,18 +44,14 @@ module _ (m : Meaning) (I X : Interp) (r : Rule) where
 
   pub support_from : (body_true m I r ≡ true → satisfied m (I ∖ X) r ≡ true) → any X r.head ≡ true → Excused m I X r
   support_from f x =
-      elim (way (body_true m I r)) [
+      elim (cases_Bool (body_true m I r)) [
         | inr e ↦ false_here e
         | inl e ↦
-            elim (way (body_true m (I ∖ X) r)) [
+            elim (cases_Bool (body_true m (I ∖ X) r)) [
               | inr e' ↦ false_without e'
-              | inl e' ↦ elim (or_ways (not (body_true m (I ∖ X) r)) (any (I ∖ X) r.head) (f e)) [ inl n ↦ clash n (ap not e') | inr h ↦ other_head h ]
+              | inl e' ↦ elim (or_cases (not (body_true m (I ∖ X) r)) (any (I ∖ X) r.head) (f e)) [ inl n ↦ clash n (ap not e') | inr h ↦ other_head h ]
             ]
       ]
-
-gone : (i x : Bool) → x ≡ true → (i && not x) ≡ false
-gone true x e = ap not e
-gone false x e = refl
 
 taken : (i x : Bool) → i ≡ true → (i && not x) ≡ false → x ≡ true
 taken i true p q = refl
@@ -65,8 +61,8 @@ taken false false p q = p
 pub without_proper : (I X : Interp) → Subset X I → (a : ℕ) × (X a ≡ true) → Proper (I ∖ X) I
 without_proper I X sub s =
     record {
-      within = λ a e. left (I a) (not (X a)) e;
-      lacks = (s.0, sub s.0 s.1, gone (I s.0) (X s.0) s.1);
+      within = λ a e. (and_parts (I a) (not (X a)) e).0;
+      lacks = (s.0, sub s.0 s.1, and_right (I s.0) (not (X s.0)) (ap not s.1));
     }
 
 pub unfounded_reduct :

@@ -8,10 +8,11 @@ use Prim.Native.Nat.{ℕ, zero, suc, ◌+◌, ◌<◌}
 use native.Mathlib.Omega.{arith}
 use native.Mathlib.Decide.{dec_lt}
 use lib.ListN.{length, get_or}
+use Rattle.std.proofs.lemmas.Bool.{cases_Bool, false_from_ne_true, and_from, and_parts, or_left, or_right, or_cases, not-true}
 use Rattle.semantics.specs.Program.{Interp, Plan, atom_limit, Rule, Meaning, any, all, Each, body_true, satisfied, Model, Subset, ◌∖◌, Excused, false_here, false_without, other_head, Unfounded, Earlier, Earliest, LowestBroken, no_rule}
 use Rattle.semantics.specs.Judge.{Verdict, stands, broken, unfounded, judge, seek, first_broken, any_below, excused, unfounded_test}
 use Rattle.semantics.specs.Theorems.{Says, JudgeRight}
-use Rattle.semantics.proofs.Facts.{way, clash, is_false, both, left, right, or_left, or_right, or_ways, each_map, each_all, all_each}
+use Rattle.semantics.proofs.Facts.{clash, each_map, each_all, all_each}
 use Rattle.semantics.proofs.Seeking.{Ranged, Sought, sought}
 
 each_at : {A : Type 0} (P : A → Type 0) (d : A) (xs : List A) (k : ℕ) → k < length xs → Each P xs → P (get_or xs k d)
@@ -51,7 +52,7 @@ lowest_unique rules m I n k p q =
 some_below : (n : ℕ) (X : Interp) → any_below n X ≡ true → (a : ℕ) × (X a ≡ true)
 unfolding any_below
 some_below zero X e = absurd (false≢true e)
-some_below (suc n) X e = elim (or_ways (X n) (any_below n X) e) [ inl h ↦ (n, h) | inr h ↦ some_below n X h ]
+some_below (suc n) X e = elim (or_cases (X n) (any_below n X) e) [ inl h ↦ (n, h) | inr h ↦ some_below n X h ]
 
 below_some : (n : ℕ) (X : Interp) (a : ℕ) → a < n → X a ≡ true → any_below n X ≡ true
 unfolding any_below
@@ -66,24 +67,20 @@ below_some (suc n) X a h e =
 module _ (m : Meaning) (I X : Interp) (r : Rule) where
   excuse : excused m I X r ≡ true → any X r.head ≡ true → Excused m I X r
   excuse t x =
-      elim (or_ways (not (any X r.head)) _ t) [
+      elim (or_cases (not (any X r.head)) _ t) [
         | inl e ↦ clash e (ap not x)
         | inr t ↦
-            elim (or_ways (not (body_true m I r)) _ t) [
-              | inl e ↦ false_here (un_not (body_true m I r) e)
+            elim (or_cases (not (body_true m I r)) _ t) [
+              | inl e ↦ false_here (not-true (body_true m I r) e)
               | inr t ↦
-                  elim (or_ways (not (body_true m (I ∖ X) r)) (any (I ∖ X) r.head) t)
-                  [ inl e ↦ false_without (un_not (body_true m (I ∖ X) r) e) | inr e ↦ other_head e ]
+                  elim (or_cases (not (body_true m (I ∖ X) r)) (any (I ∖ X) r.head) t)
+                  [ inl e ↦ false_without (not-true (body_true m (I ∖ X) r) e) | inr e ↦ other_head e ]
             ]
       ]
-    where
-      un_not : (b : Bool) → not b ≡ true → b ≡ false
-      un_not true e = sym e
-      un_not false e = refl
 
   excused_by : (any X r.head ≡ true → Excused m I X r) → excused m I X r ≡ true
   excused_by f =
-      elim (way (any X r.head)) [
+      elim (cases_Bool (any X r.head)) [
         | inr e ↦ or_left _ _ (ap not e)
         | inl e ↦ or_right (not (any X r.head)) _ (given (f e))
       ]
@@ -112,16 +109,17 @@ module _ (rules : List Rule) (m : Meaning) (I : Interp) (plan : Plan I) where
 
   pub passes : (X : Interp) → Unfounded rules m I X → unfounded_test rules m I X ≡ true
   passes X u =
-      both (any_below atom_limit X) (all (excused m I X) rules)
+      and_from (any_below atom_limit X) (all (excused m I X) rules)
       (below_some atom_limit X u.member.0 (plan u.member.0 (u.inside u.member.0 u.member.1)) u.member.1)
       (each_all (excused m I X) rules (each_map rules (λ r. excused_by m I X r) u.excused))
 
   pub passed : (X : Interp) → Subset X I → unfounded_test rules m I X ≡ true → Unfounded rules m I X
   passed X s t =
+      let parts = and_parts (any_below atom_limit X) (all (excused m I X) rules) t in
       record {
-        member = some_below atom_limit X (left (any_below atom_limit X) (all (excused m I X) rules) t);
+        member = some_below atom_limit X parts.0;
         inside = s;
-        excused = each_map rules (λ r. excuse m I X r) (all_each (excused m I X) rules (right (any_below atom_limit X) (all (excused m I X) rules) t));
+        excused = each_map rules (λ r. excuse m I X r) (all_each (excused m I X) rules parts.1);
       }
 
   ranged : (Y : Interp) → Subset Y I → Ranged atom_limit 0 I Y
@@ -156,7 +154,7 @@ module _ (rules : List Rule) (m : Meaning) (I : Interp) (plan : Plan I) where
       ]
     where
       beyond : (Z : Interp) → Subset Z I → (b : ℕ) → ¬ (b < atom_limit) → Z b ≡ false
-      beyond Z s b h = is_false (Z b) (λ e. h (plan b (s b e)))
+      beyond Z s b h = false_from_ne_true (Z b) (λ e. h (plan b (s b e)))
 
   unique : (v w : Verdict) → Holds v → Holds w → v ≡ w
   unique stands stands p q = refl

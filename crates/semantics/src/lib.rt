@@ -6,36 +6,26 @@ ghost use Rattle.semantics.specs.Examples.{Examples};
 ghost use Rattle.semantics.specs.Theorems.{JudgeRight};
 
 // The judgement is the lowest broken rule, else the earliest unfounded set, else neither exists.
-pub fn judge_is_right() -> u8
+pub fn judge_is_right()
     ensures { JudgeRight }
-{
-    0
-}
+{}
 
 // A check that is not refused answers the judgement.
-pub fn check_judges() -> u8
+pub fn check_judges()
     ensures { CheckJudges }
-{
-    0
-}
+{}
 
 // A set that a check names has only atoms that are in, and no more than are searched.
-pub fn named_sets_are_few() -> u8
+pub fn named_sets_are_few()
     ensures { NamedFew }
-{
-    0
-}
+{}
 
 // The refusals of a check come in their order.
-pub fn crowded_checked() -> u8
+pub fn crowded_checked()
     ensures { Crowded }
-{
-    0
-}
+{}
 
 // Twelve plans have the judgements that the definitions give.
-pub fn examples_judged() -> u8
+pub fn examples_judged()
     ensures { Examples }
-{
-    0
-}
+{}

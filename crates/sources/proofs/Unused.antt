@@ -1,33 +1,27 @@
 -- What inputs leave unused.
-use Rattle.std.proofs.Common.{◌≡◌, ℕ, zero, suc, ◌+◌, ◌-◌, ◌*◌, ◌^◌, ◌<◌, ◌≤◌, true, false, not, ◌&&◌, eqb, List, [], ◌∷◌, length, get_or, drop, sym, refl, ap, ◌∙◌, ⊎_elim, add-zero, arith}
+use Rattle.std.proofs.Common.{◌≡◌, ℕ, zero, suc, ◌+◌, ◌-◌, ◌*◌, ◌^◌, ◌<◌, ◌≤◌, Bool, true, false, not, eqb, List, [], ◌∷◌, length, get_or, drop, sym, refl, ap, ◌∙◌, ⊎_elim, add-zero, arith}
 use Rattle.std.proofs.lemmas.List.{get_or-replicate, get_or_past, get_or-drop, length-drop}
 use Rattle.std.proofs.lemmas.Bool.{and_parts, and_from, not-true, cases_lt, cond-true, eq-eqb}
-use Rattle.std.specs.List.{flat_map}
+use Rattle.std.specs.List.{flat_map, list_all, range_with_len}
 use Rattle.plans.specs.Bits.{bit_in}
 use Rattle.records.specs.Atoms.{ascends, used}
 use Rattle.records.specs.Faults.{all_are}
 use Rattle.records.specs.Numbers.{le4}
 use Rattle.records.proofs.Ascending.{ascending, used_first}
 use Rattle.records.specs.Bytes.{replicated, le4_single}
-use Rattle.sources.specs.Spare.{clear_from, spare_bits, spare_numbers, BitsSpare, BytesSpare}
+use Rattle.sources.specs.Spare.{spare_bits, spare_numbers, BitsSpare, BytesSpare}
 use Rattle.sources.specs.Terms.{TermsAllowed}
 
-pub clear_step : (bs : List ℕ) (i : ℕ) → i < 256 → clear_from bs i (256 - i) ≡ not (bit_in bs i) && clear_from bs (i + 1) (256 - (i + 1))
-clear_step bs i h = let e : 256 - i ≡ suc (256 - (i + 1)) = omega arith in ap (clear_from bs i) e
-
-pub clear_end : (bs : List ℕ) (i : ℕ) → 256 ≤ i → clear_from bs i (256 - i) ≡ true
-clear_end bs i h = let e : 256 - i ≡ 0 = omega arith in ap (clear_from bs i) e
+abbrev clear : List ℕ → ℕ → ℕ → Bool
+clear bs i n = list_all (λ k. not (bit_in bs k)) (range_with_len i n)
 
 -- each of the bits is 0
-pub clear_at : (bs : List ℕ) (i n j : ℕ) → clear_from bs i n ≡ true → j < n → bit_in bs (i + j) ≡ false
+pub clear_at : (bs : List ℕ) (i n j : ℕ) → clear bs i n ≡ true → j < n → bit_in bs (i + j) ≡ false
 clear_at bs i zero j h lt = absurd (omega arith)
 clear_at bs i (suc n) zero h lt = ap (bit_in bs) (add-zero i) ∙ not-true (bit_in bs i) (and_parts _ _ h).0
 clear_at bs i (suc n) (suc j) h lt =
     let e : i + suc j ≡ i + 1 + j = omega arith in
     ap (bit_in bs) e ∙ clear_at bs (i + 1) n j (and_parts (not (bit_in bs i)) _ h).1 (omega arith)
-
-pub spare_same : (a b c d : List ℕ) → a ≡ b → c ≡ d → spare_numbers b d ≡ true → spare_numbers a c ≡ true
-spare_same a b c d p q h = ap (λ z. spare_numbers z c) p ∙ ap (spare_numbers b) q ∙ h
 
 -- no bit is set past those of the inputs' states
 pub bits_unused : (atoms bs : List ℕ) → spare_bits atoms bs ≡ true → BitsSpare atoms bs
@@ -36,7 +30,7 @@ bits_unused atoms bs h i ge lt =
     let e : i ≡ n + (i - n) = omega arith in
     ap (bit_in bs) e ∙ clear_at bs n (256 - n) (i - n) h (omega arith)
 
-clear_back : (bs : List ℕ) (i n : ℕ) → ((j : ℕ) → j < n → bit_in bs (i + j) ≡ false) → clear_from bs i n ≡ true
+clear_back : (bs : List ℕ) (i n : ℕ) → ((j : ℕ) → j < n → bit_in bs (i + j) ≡ false) → clear bs i n ≡ true
 clear_back bs i zero f = refl
 clear_back bs i (suc n) f =
     let here : bit_in bs i ≡ false = ap (bit_in bs) (sym (add-zero i)) ∙ f 0 (omega arith) in

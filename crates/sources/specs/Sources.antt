@@ -1,8 +1,8 @@
 -- Source records: letter S, and one of the three forms.
 use Rattle.std.specs.Prelude.{ℕ, false, cond, List, [], ◌∷◌, length, Some, Option, ◌==◌, slice_index}
-use Rattle.records.specs.declared.fault.Flaw.TheVariants.{Size, Letter, Form}
+use Rattle.records.specs.declared.fault.RecordFault.TheVariants.{Size, Letter, Form}
 use Rattle.records.specs.declared.fault.RecordFault.{RecordFault}
-use Rattle.records.specs.Faults.{first_fault, fault_of}
+use Rattle.records.specs.Faults.{first_fault}
 use Rattle.sources.specs.declared.source.Source.{Source}
 use Rattle.sources.specs.declared.source.Source.TheVariants.{Table, Sum, Week}
 use Rattle.sources.specs.Tables.{table_image, table_fault}
@@ -23,4 +23,4 @@ form_fault m bs =
     first_fault (((slice_index bs 0 == 83), Letter) ∷ (false, Form) ∷ []))))
 
 abbrev pub source_fault : List ℕ → Option RecordFault
-source_fault bs = cond (length bs == 48) (form_fault (slice_index bs 1) bs) (Some (fault_of Size))
+source_fault bs = cond (length bs == 48) (form_fault (slice_index bs 1) bs) (Some Size)

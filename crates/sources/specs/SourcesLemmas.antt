@@ -1,9 +1,11 @@
 -- Source records keep the laws of a kind, and a record's form chooses its tests.
-use Rattle.std.specs.Prelude.{◌≡◌, ℕ, false, List, [], ◌∷◌, length, None, Err, ◌==◌, ◌≢◌, slice_index, refl}
-use Rattle.std.proofs.Common.{sym, ◌∙◌, ap, arith, eq-eqb, ne_eqb}
-use Rattle.std.proofs.lemmas.Bool.{cond-true, cond-false}
-use Rattle.records.specs.declared.fault.Flaw.TheVariants.{Letter, Form}
-use Rattle.records.specs.Faults.{fault_of, first_fault}
+use Rattle.std.specs.Prelude.{◌≡◌, ℕ, List, length, None, Ok, Result, ◌==◌, slice_index, refl}
+use Rattle.std.proofs.Common.{sym, ◌∙◌, ap, arith, eq-eqb}
+use Rattle.std.proofs.lemmas.Bool.{cond-true}
+use Rattle.records.specs.declared.fault.RecordFault.{RecordFault}
+use Rattle.records.specs.declared.fault.RecordFault.TheVariants.{Size}
+use Rattle.records.specs.Bytes.{demanded_ok}
+use Rattle.records.specs.Faults.{demanded}
 use Rattle.sources.specs.declared.source.Source.{Source}
 use Rattle.sources.specs.declared.source.Source.TheVariants.{Table, Sum, Week}
 use Rattle.sources.specs.Judged.{letter_kind, kind_of}
@@ -24,20 +26,9 @@ source_size (Week s) = week_size s
 pub source_tests : (bs : List ℕ) → length bs ≡ 48 → source_fault bs ≡ form_fault (slice_index bs 1) bs
 source_tests bs l = cond-true (length bs == 48) _ _ (eq-eqb _ _ l)
 
-pub form_is : (bs : List ℕ) (m : ℕ) → length bs ≡ 48 → slice_index bs 1 ≡ m → form_fault m bs ≡ source_fault bs
-form_is bs m l e = sym (source_tests bs l ∙ ap (λ z. form_fault z bs) e)
-
-pub other_form : (bs : List ℕ) → length bs ≡ 48 → (slice_index bs 1 ≢ 84) → (slice_index bs 1 ≢ 87) → (slice_index bs 1 ≢ 75)
-    → first_fault (((slice_index bs 0 == 83), Letter) ∷ (false, Form) ∷ []) ≡ source_fault bs
-other_form bs l a b c = sym (source_tests bs l ∙ cond-false (slice_index bs 1 == 84) _ _ (ne_eqb _ _ a) ∙ cond-false (slice_index bs 1 == 87) _ _ (ne_eqb _ _ b) ∙ cond-false (slice_index bs 1 == 75) _ _ (ne_eqb _ _ c))
-
--- the kind of a record of forty-eight bytes
-pub letter_is : (bs : List ℕ) (m : ℕ) → length bs ≡ 48 → slice_index bs 0 ≡ m → letter_kind m bs ≡ kind_of bs
-letter_is bs m l e = sym (cond-true (length bs == 48) _ _ (eq-eqb _ _ l) ∙ ap (λ z. letter_kind z bs) e)
-
-pub other_letter : (bs : List ℕ) → length bs ≡ 48 → (slice_index bs 0 ≢ 83) → (slice_index bs 0 ≢ 82) → (slice_index bs 0 ≢ 67) → Err (fault_of Letter) ≡ kind_of bs
-other_letter bs l a b c =
-    sym (cond-true (length bs == 48) _ _ (eq-eqb _ _ l) ∙ cond-false (slice_index bs 0 == 83) _ _ (ne_eqb _ _ a) ∙ cond-false (slice_index bs 0 == 82) _ _ (ne_eqb _ _ b) ∙ cond-false (slice_index bs 0 == 67) _ _ (ne_eqb _ _ c))
+-- the kind of a record whose size is kept
+pub letter_is : (bs : List ℕ) (m : ℕ) (r : Result (Unit {0}) RecordFault) (u : Unit {0}) → r ≡ demanded (length bs == 48) Size → r ≡ Ok u → slice_index bs 0 ≡ m → letter_kind m bs ≡ kind_of bs
+letter_is bs m r u is ok e = sym (cond-true (length bs == 48) _ _ (demanded_ok _ _ u (sym is ∙ ok)) ∙ ap (λ z. letter_kind z bs) e)
 
 pub source_clean : (s : Source) → source_fault (source_image s) ≡ None
 source_clean (Table s) = source_tests (table_image s) (table_size s) ∙ table_clean s

@@ -1,17 +1,13 @@
 -- What the inputs leave unused in a source's body is 0.
-use Rattle.std.specs.Prelude.{◌≡◌, ℕ, zero, suc, ◌+◌, ◌-◌, ◌*◌, ◌^◌, ◌<◌, ◌≤◌, Bool, true, false, not, ◌&&◌, List, length, drop, slice_index}
+use Rattle.std.specs.Prelude.{◌≡◌, ℕ, ◌-◌, ◌*◌, ◌^◌, ◌<◌, ◌≤◌, Bool, true, false, not, List, length, drop, slice_index}
+use Rattle.std.specs.List.{list_all, range_with_len}
 use Rattle.plans.specs.Bits.{bit_in}
 use Rattle.records.specs.Atoms.{used}
 use Rattle.records.specs.Faults.{all_are}
 
--- n bits from bit i on are 0
-abbrev pub clear_from : List ℕ → ℕ → ℕ → Bool
-clear_from bs i zero = true
-clear_from bs i (suc n) = not (bit_in bs i) && clear_from bs (i + 1) n
-
 -- with n inputs, each of the 256 bits from 2 ^ n on is 0
 abbrev pub spare_bits : List ℕ → List ℕ → Bool
-spare_bits atoms bs = clear_from bs (2 ^ used atoms) (256 - 2 ^ used atoms)
+spare_bits atoms bs = list_all (λ i. not (bit_in bs i)) (range_with_len (2 ^ used atoms) (256 - 2 ^ used atoms))
 
 -- with n inputs, each of the numbers of four bytes from the n-th on is 0
 abbrev pub spare_numbers : List ℕ → List ℕ → Bool

@@ -1,9 +1,8 @@
 -- Sum records: letter S, form W, inputs, their weights and a bound.
 use Rattle.std.specs.Prelude.{ℕ, Bool, List, [], ◌∷◌, map, Option, ◌≡◌, ◌<◌, ◌^◌, length}
 use Rattle.std.specs.List.{flat_map}
-use Rattle.records.specs.declared.fault.Flaw.{Flaw}
-use Rattle.records.specs.declared.fault.Flaw.TheVariants.{Atoms, Body}
 use Rattle.records.specs.declared.fault.RecordFault.{RecordFault}
+use Rattle.records.specs.declared.fault.RecordFault.TheVariants.{Atoms, Body}
 use Rattle.records.specs.declared.fields.Fields.{Fields}
 use Rattle.records.specs.Atoms.{ascends}
 use Rattle.records.specs.Frames.{frame, fault_by}
@@ -18,7 +17,7 @@ sum_fields s = record { atoms = map (λ t. t.atom) s.terms; body = flat_map le4 
 abbrev pub sum_image : SumSource → List ℕ
 sum_image s = frame 83 87 (sum_fields s)
 
-abbrev pub sum_tests : Fields → List (Bool × Flaw)
+abbrev pub sum_tests : Fields → List (Bool × RecordFault)
 sum_tests f = (ascends 0 f.atoms, Atoms) ∷ (spare_numbers f.atoms f.body, Body) ∷ []
 
 abbrev pub sum_fault : List ℕ → Option RecordFault

@@ -1,8 +1,7 @@
 -- Table records: letter S, form T, inputs, a truth bit for each of their states, and an empty tail.
 use Rattle.std.specs.Prelude.{ℕ, Bool, List, [], ◌∷◌, replicate, Option, ◌≡◌, length}
-use Rattle.records.specs.declared.fault.Flaw.{Flaw}
-use Rattle.records.specs.declared.fault.Flaw.TheVariants.{Atoms, Body, Tail}
 use Rattle.records.specs.declared.fault.RecordFault.{RecordFault}
+use Rattle.records.specs.declared.fault.RecordFault.TheVariants.{Atoms, Body, Tail}
 use Rattle.records.specs.declared.fields.Fields.{Fields}
 use Rattle.records.specs.Atoms.{ascends, Ascending}
 use Rattle.records.specs.Faults.{all_are}
@@ -16,7 +15,7 @@ table_fields s = record { atoms = s.inputs; body = s.bits; tail = replicate 4 0 
 abbrev pub table_image : TableSource → List ℕ
 table_image s = frame 83 84 (table_fields s)
 
-abbrev pub table_tests : Fields → List (Bool × Flaw)
+abbrev pub table_tests : Fields → List (Bool × RecordFault)
 table_tests f = (ascends 0 f.atoms, Atoms) ∷ (spare_bits f.atoms f.body, Body) ∷ (all_are 0 f.tail, Tail) ∷ []
 
 abbrev pub table_fault : List ℕ → Option RecordFault

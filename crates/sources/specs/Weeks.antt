@@ -1,9 +1,8 @@
 -- Week records: letter S, form K, inputs, their days, how many weeks are wanted and the first weekday.
 use Rattle.std.specs.Prelude.{ℕ, Bool, ◌&&◌, List, [], ◌∷◌, map, drop, Option, nat_le, nat_lt, slice_index, ◌≡◌, ◌<◌, ◌≤◌, length}
 use Rattle.std.specs.List.{flat_map}
-use Rattle.records.specs.declared.fault.Flaw.{Flaw}
-use Rattle.records.specs.declared.fault.Flaw.TheVariants.{Atoms, Body, Tail}
 use Rattle.records.specs.declared.fault.RecordFault.{RecordFault}
+use Rattle.records.specs.declared.fault.RecordFault.TheVariants.{Atoms, Body, Tail}
 use Rattle.records.specs.declared.fields.Fields.{Fields}
 use Rattle.records.specs.Atoms.{ascends}
 use Rattle.records.specs.Faults.{all_are}
@@ -23,7 +22,7 @@ week_image s = frame 83 75 (week_fields s)
 abbrev pub week_tail : List ℕ → Bool
 week_tail t = (nat_lt 0 (slice_index t 0) && nat_le (slice_index t 0) 8) && (nat_lt (slice_index t 1) 7 && all_are 0 (drop 2 t))
 
-abbrev pub week_tests : Fields → List (Bool × Flaw)
+abbrev pub week_tests : Fields → List (Bool × RecordFault)
 week_tests f = (ascends 0 f.atoms, Atoms) ∷ (spare_numbers f.atoms f.body, Body) ∷ (week_tail f.tail, Tail) ∷ []
 
 abbrev pub week_fault : List ℕ → Option RecordFault

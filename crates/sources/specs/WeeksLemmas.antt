@@ -6,7 +6,7 @@ use mathlib.Core.HLevel.{is_prop→PathP, Π_prop, ×_prop}
 use Rattle.std.proofs.Math.Bridge.{le_prop}
 use Rattle.std.proofs.Math.Nat.{ℕ_set}
 use Rattle.std.proofs.lemmas.List.{length-map, get_or-drop}
-use Rattle.std.proofs.lemmas.Bool.{lt-ltb, le-leb, ltb-true, leb-true, and_parts}
+use Rattle.std.proofs.lemmas.Bool.{lt-ltb, le-leb, and_parts}
 use Rattle.std.specs.List.{flat_map}
 use Rattle.records.specs.Atoms.{ascends}
 use Rattle.records.specs.Faults.{all_are}
@@ -56,28 +56,11 @@ week_single s t e =
       first_ok = is_prop→PathP (λ k. d k < 7) (λ k. le_prop) s.first_ok t.first_ok j;
     }
 
-tail_bytes : (t : List ℕ) → length t ≡ 4 → all_are 0 (drop 2 t) ≡ true → slice_index t 0 ∷ slice_index t 1 ∷ 0 ∷ 0 ∷ [] ≡ t
+-- a tail that keeps its rule is its two numbers and two zeros
+pub tail_bytes : (t : List ℕ) → length t ≡ 4 → week_tail t ≡ true → slice_index t 0 ∷ slice_index t 1 ∷ 0 ∷ 0 ∷ [] ≡ t
 tail_bytes t l h =
-    let z : replicate 2 0 ≡ drop 2 t = replicated_at 2 0 (drop 2 t) (simp length-drop (omega arith)) h in
+    let empty : all_are 0 (drop 2 t) ≡ true = (and_parts (nat_lt (slice_index t 1) 7) _ (and_parts (nat_lt 0 (slice_index t 0) && nat_le (slice_index t 0) 8) _ h).1).1 in
+    let z : replicate 2 0 ≡ drop 2 t = replicated_at 2 0 (drop 2 t) (simp length-drop (omega arith)) empty in
     let e2 : 0 ≡ slice_index_or t 2 0 = ap (λ s. slice_index s 0) z ∙ get_or-drop 2 t 0 0 in
     let e3 : 0 ≡ slice_index_or t 3 0 = ap (λ s. slice_index s 1) z ∙ get_or-drop 2 t 1 0 in
     ap (λ x. slice_index t 0 ∷ slice_index t 1 ∷ x ∷ 0 ∷ []) e2 ∙ ap (λ x. slice_index t 0 ∷ slice_index t 1 ∷ slice_index t 2 ∷ x ∷ []) e3 ∙ four t l
-
--- a tail that keeps its rule
-pub record TailRead (t : List ℕ) : Type 0 where
-  pub some : 0 < slice_index t 0
-  pub most : slice_index_or t 0 0 ≤ 8
-  pub weekday : slice_index_or t 1 0 < 7
-  pub bytes : slice_index_or t 0 0 ∷ slice_index t 1 ∷ 0 ∷ 0 ∷ [] ≡ t
-
-pub tail_read : (t : List ℕ) → length t ≡ 4 → week_tail t ≡ true → TailRead t
-tail_read t l h =
-    let p = and_parts (nat_lt 0 (slice_index t 0) && nat_le (slice_index t 0) 8) _ h in
-    let q = and_parts (nat_lt 0 (slice_index t 0)) _ p.0 in
-    let r = and_parts (nat_lt (slice_index t 1) 7) _ p.1 in
-    record {
-      some = ltb-true _ _ q.0;
-      most = leb-true _ _ q.1;
-      weekday = ltb-true _ _ r.0;
-      bytes = tail_bytes t l r.1;
-    }

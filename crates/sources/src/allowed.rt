@@ -3,20 +3,14 @@ ghost use Rattle.sources.specs.Sums.{SumsAllowed};
 ghost use Rattle.sources.specs.Tables.{TablesAllowed};
 ghost use Rattle.sources.specs.Weeks.{WeeksAllowed};
 
-pub fn tables_allowed() -> u8
+pub fn tables_allowed()
     ensures { TablesAllowed }
-{
-    0
-}
+{}
 
-pub fn sums_allowed() -> u8
+pub fn sums_allowed()
     ensures { SumsAllowed }
-{
-    0
-}
+{}
 
-pub fn weeks_allowed() -> u8
+pub fn weeks_allowed()
     ensures { WeeksAllowed }
-{
-    0
-}
+{}

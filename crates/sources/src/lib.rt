@@ -7,6 +7,8 @@ pub mod allowed;
 pub mod judge;
 // The kinds of records.
 pub mod kind;
+// Eight numbers of four bytes each.
+mod numbers;
 // A source of any form.
 pub mod source;
 // The kind of sources.
@@ -21,8 +23,6 @@ pub mod sum_source;
 pub mod table_record;
 // Inputs with a truth bit for each of their states.
 pub mod table_source;
-// An input with a number.
-mod term;
 // The kind of weeks.
 pub mod week_record;
 // Inputs with days, and how many weeks are wanted.

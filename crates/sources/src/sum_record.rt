@@ -1,59 +1,43 @@
 // The kind of sum sources.
-ghost use Rattle.std.specs.Prelude.{◌≡◌};
-ghost use Rattle.records.specs.Faults.{first_fault, unless};
-ghost use Rattle.sources.specs.Sums.{sum_image, sum_tests, sum_fault};
+ghost use Rattle.std.specs.Prelude.{◌≡◌, ℕ, ◌^◌, ◌<◌, map, slice_index};
+ghost use Rattle.std.specs.List.{flat_map};
+ghost use Rattle.records.specs.Numbers.{le4};
+ghost use Rattle.sources.specs.Sums.{sum_image, sum_fault};
 ghost use Rattle.sources.specs.SumsLemmas.{sum_size, sum_clean, sum_single};
 ghost use Rattle.std.proofs.Common.{rules};
 
+use crate::numbers::{read_numbers, write_numbers};
 use crate::spare::numbers_keep;
 use crate::sum_source::{SumSource, Weighted};
-use crate::term::{Term, atoms_of, numbers_of, read_terms};
 use records::atoms::atoms_ascend;
-use records::fault::check_tests;
+use records::fault::demand;
 use records::fields::{Fields, number_of, read_frame, write_frame};
-use records::{Flaw, Record, RecordFault};
-
-impl Term for Weighted {
-    ghost input = { λ t. t.atom };
-
-    ghost amount = { λ t. t.weight };
-
-    fn of(atom: u8, number: u32) -> Weighted {
-        Weighted {
-            atom,
-            weight: number,
-        }
-    }
-
-    fn atom(&self) -> u8 {
-        self.atom
-    }
-
-    fn number(&self) -> u32 {
-        self.weight
-    }
-}
+use records::{Record, RecordFault};
+use std::array;
 
 pub struct SumRecord;
 
 const FORM: char = 'W';
 
-// A sum's own tests.
-fn check_sum(fields: &Fields) -> Result<(), RecordFault>
-    ensures { result ≡ unless (first_fault (sum_tests fields.now)) tt }
+// A sum's inputs with their weights. `dated` does the same for weeks: a trait for both would be longer than the two.
+fn weighted(fields: &Fields) -> [Weighted; 8]
+    ensures atoms { map (λ t. t.atom) result ≡ fields.now.atoms }
+    ensures body { flat_map le4 (map (λ t. t.weight) result) ≡ fields.now.body }
+    ensures small { (k : ℕ) → slice_index (map (λ t. t.weight) result) k < 2 ^ 32 }
 {
-    check_tests(&[
-        (atoms_ascend(&fields.atoms), Flaw::Atoms),
-        (numbers_keep(&fields.atoms, &fields.body), Flaw::Body),
-    ])
+    let numbers = read_numbers(&fields.body);
+    array::from_fn(|i| Weighted {
+        atom: fields.atoms[i],
+        weight: numbers[i],
+    })
 }
 
 impl Record for SumRecord {
     const LETTER: char = 'S';
 
-    type Decoded = SumSource;
+    ghost LETTER = { 83 };
 
-    ghost letter = { 83 };
+    type Decoded = SumSource;
 
     ghost image = { sum_image };
 
@@ -67,27 +51,22 @@ impl Record for SumRecord {
 
     ghost single = { λ v w e. sum_single v w e };
 
-    fn own_letter() -> char {
-        Self::LETTER
-    }
-
     fn decode(bytes: &[u8]) -> Result<SumSource, RecordFault> {
         let fields = read_frame(bytes, Self::LETTER as u8, FORM as u8)?;
-        check_sum(&fields)?;
-        let terms = read_terms::<Weighted>(&fields.atoms, &fields.body);
-        let bound = number_of(&fields.tail);
-        Ok(SumSource { terms, bound })
+        demand(atoms_ascend(&fields.atoms), RecordFault::Atoms)?;
+        demand(numbers_keep(&fields.atoms, &fields.body), RecordFault::Body)?;
+        Ok(SumSource {
+            terms: weighted(&fields),
+            bound: number_of(&fields.tail),
+        })
     }
 
     fn encode(value: &SumSource, place: &mut [u8]) -> Result<(), RecordFault> {
-        let atoms = atoms_of(&value.terms);
-        let body = numbers_of(&value.terms);
-        let tail = value.bound.to_le_bytes();
-        write_frame(
-            place,
-            Self::LETTER as u8,
-            FORM as u8,
-            &Fields { atoms, body, tail },
-        )
+        let fields = Fields {
+            atoms: value.terms.map(|t| t.atom),
+            body: write_numbers(&value.terms.map(|t| t.weight)),
+            tail: value.bound.to_le_bytes(),
+        };
+        write_frame(place, Self::LETTER as u8, FORM as u8, &fields)
     }
 }

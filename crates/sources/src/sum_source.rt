@@ -5,13 +5,14 @@ ghost use Rattle.records.specs.Atoms.{ascends};
 ghost use Rattle.records.specs.Numbers.{le4};
 ghost use Rattle.sources.specs.Spare.{spare_numbers};
 
-#[derive(Clone, Copy)]
+// A type apart from `Dated`, so that no weight is taken for a day.
+#[derive(Clone, Copy, Debug, PartialEq, Eq)]
 pub struct Weighted {
     pub atom: u8,
     pub weight: u32,
 }
 
-#[derive(Clone, Copy)]
+#[derive(Clone, Copy, Debug, PartialEq, Eq)]
 pub struct SumSource {
     pub terms: [Weighted; 8],
     pub bound: u32,

@@ -3,7 +3,7 @@ ghost use Rattle.std.specs.Prelude.{◌≡◌, true, length};
 ghost use Rattle.records.specs.Atoms.{ascends};
 ghost use Rattle.sources.specs.Spare.{spare_bits};
 
-#[derive(Clone, Copy)]
+#[derive(Clone, Copy, Debug, PartialEq, Eq)]
 pub struct TableSource {
     pub inputs: [u8; 8],
     // Bit i is bit (i mod 8) of byte (i div 8), and the truth at index i.

@@ -6,13 +6,13 @@ ghost use Rattle.records.specs.Numbers.{le4};
 ghost use Rattle.sources.specs.Spare.{spare_numbers};
 
 // Days are counted from 1970-01-01.
-#[derive(Clone, Copy)]
+#[derive(Clone, Copy, Debug, PartialEq, Eq)]
 pub struct Dated {
     pub atom: u8,
     pub day: u32,
 }
 
-#[derive(Clone, Copy)]
+#[derive(Clone, Copy, Debug, PartialEq, Eq)]
 pub struct WeekSource {
     pub terms: [Dated; 8],
     pub wanted: u8,

@@ -1,29 +1,19 @@
-use Rattle.std.proofs.Common.{◌≡◌, ◌+◌, ◌-◌, ◌*◌, true, false, get_or, take, drop, is_some, sym, ap, ◌∙◌, arith, length-drop}
-use Rattle.std.proofs.lemmas.List.{at_drop_all, take_all}
+use Rattle.std.proofs.Common.{◌≡◌, ◌/◌, length, drop, rules, ◌∙◌, ap, arith}
+use borrow.Author.Tests.{tests}
+use Rattle.std.proofs.lemmas.Iterator.{YieldsList-from_slice}
+use Rattle.std.proofs.lemmas.Iterator.Adapters.{YieldsList-from_skip_while}
+use Rattle.std.proofs.lemmas.Iterator.Search.{all_from_yields_List}
+use Rattle.std.specs.List.{list_all, prefix_len}
+use Rattle.std.specs.Simd.{first_chunks}
 use Rattle.records.specs.Faults.{all_are}
-use Rattle.records.specs.Literals.{body_rule, literal_of}
-use Rattle.records.proofs.Bodies.{body_step}
+use Rattle.records.proofs.Bodies.{written, pairs_keep}
 use Rattle.records.proofs.literal.body_keeps.Goals as goal
-
-pub returns-in-None : goal.returns-in-None
-returns-in-None c =
-    let bs = c.args.bytes.now in
-    let i = c.loop-i.i in
-    let none : is_some (literal_of (get_or bs (2 * i) 0) (get_or bs (2 * i + 1) 0)) ≡ false = ap is_some (sym c.read_literal.ensures ∙ c.in-None.is) in
-    let step = rw none at (body_step bs i (omega arith)) in
-    let all : take (32 - 2 * i) (drop (2 * i) bs) ≡ drop (2 * i) bs = take_all (32 - 2 * i) (drop (2 * i) bs) (simp length-drop (omega arith)) in
-    c.all_are.ensures ∙ ap (all_are 0) all ∙ sym step ∙ c.loop-i.invariant
-
-pub loop-i-preserved : goal.loop-i-preserved
-loop-i-preserved c =
-    let bs = c.args.bytes.now in
-    let i = c.loop-i.i in
-    let some : is_some (literal_of (get_or bs (2 * i) 0) (get_or bs (2 * i + 1) 0)) ≡ true = ap is_some (sym c.read_literal.ensures ∙ c.in_default.is) in
-    let step = rw some at (body_step bs i (omega arith)) in
-    sym step ∙ c.loop-i.invariant
 
 pub returns : goal.returns
 returns c =
     let bs = c.args.bytes.now in
-    let end : body_rule (drop (2 * c.loop-i.i) bs) ≡ true = at_drop_all body_rule bs (2 * c.loop-i.i) (omega arith) in
-    sym end ∙ c.loop-i.invariant
+    let pairs = c.as_chunks.result.0.now in
+    let all = all_from_yields_List (all_are 0) _ _ c.all.result c.all.ensures.ran (YieldsList-from_skip_while _ (λ y. y.now) _ written _ (λ x b q k. search (rules, tests)) (YieldsList-from_slice pairs cc) c.skip_while.ensures.closure c.skip_while.ensures.done_skipping) (λ x b q k. search (rules, tests)) in
+    let sixteen : length bs / 2 ≡ 16 = omega arith in
+    let cut = c.as_chunks.ensures.front ∙ ap (λ n. first_chunks 2 n bs) sixteen in
+    all ∙ ap (λ ps. list_all (all_are 0) (drop (prefix_len written ps) ps)) cut ∙ pairs_keep 16 bs (omega arith)

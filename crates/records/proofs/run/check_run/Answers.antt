@@ -1,25 +1,29 @@
-use Rattle.std.proofs.Common.{◌≡◌, ◌+◌, ◌-◌, ◌*◌, ◌/◌, ◌%◌, ◌<◌, ◌≤◌, length, sym, ◌∙◌, arith}
+use Rattle.std.proofs.Common.{◌/◌, ◌<◌, length, rules, sym, ap, ◌∙◌, arith}
 use Rattle.std.proofs.lemmas.Result.{err_from_is_err_and}
 use Rattle.std.proofs.lemmas.Bool.{cond-false}
-use Rattle.records.proofs.Runs.{good_run, count_broke, count_on}
+use Rattle.std.specs.Option.{is_none}
+use Rattle.records.proofs.Runs.{record_at, placed, count_broke, count_on}
 use Rattle.records.proofs.run.check_run.Goals as goal
 
-pub returns-in_err-at_place : goal.returns-in_err-at_place
-returns-in_err-at_place g c =
+pub returns-in_err-map_err : goal.returns-in_err-map_err
+returns-in_err-map_err g c =
     let bs = c.args.bytes.now in
-    let k = c.loop-place.place in
-    let m : length bs % 48 ≡ 0 = omega arith in
-    let q : length bs / 48 ≤ 512 = omega arith in
-    let lt : k < length bs / 48 = omega arith in
-    let n : (48 * k + 48) - 48 * k ≡ 48 = omega arith in
-    let p = err_from_is_err_and c.from_residual.result c.from_residual.ensures.1 in
-    let broke = count_broke g.K.Record.fault bs k _ (length bs / 48) n lt c.decode.result c.at_place.result _ c.decode.ensures.fault c.in_err-at_place.was c.at_place.ensures in
-    rw (p.1, p.2) (sym broke ∙ c.loop-place.invariant ∙ sym (cond-false _ _ _ (good_run bs m q)))
+    let k = c.loop-place.place-counter in
+    let some = c.in_ok-records.ensures.ok_part in
+    let good = sym c.records_of.ensures.refused ∙ ap is_none some in
+    let lt : k < length bs / 48 = omega (arith, rw some at c.records_of.ensures.count) in
+    let at = record_at bs _ k (rw some at c.records_of.ensures.records) lt in
+    let is = placed k c.decode.result c.map_err.result c.map_err.ensures.cases (λ e p q. search rules) in
+    let p = err_from_is_err_and c.from_residual-in_err-map_err.result c.from_residual-in_err-map_err.ensures.1 in
+    let broke = count_broke g.K.Record.fault bs k (length bs / 48) _ at lt c.decode.result c.map_err.result _ c.decode.ensures.fault c.in_err-map_err.was is in
+    rw (p.1, p.2) (sym broke ∙ c.loop-place.invariant ∙ sym (cond-false _ _ _ good))
 
 pub loop-place-preserved : goal.loop-place-preserved
 loop-place-preserved g c =
     let bs = c.args.bytes.now in
-    let k = c.loop-place.place in
-    let lt : k < length bs / 48 = omega arith in
-    let n : (48 * k + 48) - 48 * k ≡ 48 = omega arith in
-    sym (count_on g.K.Record.fault bs k _ (length bs / 48) n lt c.decode.result c.at_place.result _ c.decode.ensures.fault c.in_ok-at_place.was c.at_place.ensures) ∙ c.loop-place.invariant
+    let k = c.loop-place.place-counter in
+    let some = c.in_ok-records.ensures.ok_part in
+    let lt : k < length bs / 48 = omega (arith, rw some at c.records_of.ensures.count) in
+    let at = record_at bs _ k (rw some at c.records_of.ensures.records) lt in
+    let is = placed k c.decode.result c.map_err.result c.map_err.ensures.cases (λ e p q. search rules) in
+    sym (count_on g.K.Record.fault bs k (length bs / 48) _ at lt c.decode.result c.map_err.result _ c.decode.ensures.fault c.in_ok-map_err.was is) ∙ c.loop-place.invariant

@@ -1,20 +1,11 @@
-use Rattle.std.proofs.Common.{◌≡◌, sym, ap, ◌∙◌, arith}
-use Rattle.plans.specs.declared.partial_plan.Status.{Status}
-use Rattle.plans.specs.Partial.{full, is_in}
-use Rattle.plans.proofs.Partial.{full_place, size_none, size_more}
+use Rattle.std.proofs.Common.{rules, tests, arith, ◌∙◌}
+use Rattle.std.proofs.lemmas.Iterator.{YieldsList-from_range}
+use Rattle.std.proofs.lemmas.Iterator.Consumers.{YieldsList-at, YieldsList-from_filter, count_from_yields_List}
+use Rattle.plans.specs.Partial.{full}
+use Rattle.plans.proofs.Partial.{counted}
 use Rattle.plans.proofs.partial_plan.PartialPlan.count_in.Goals as goal
-use Rattle.plans.proofs.partial_plan.PartialPlan.count_in.Goals.{in-In, in-Out, in-Open}
 
-pub loop-atom-init : goal.loop-atom-init
-loop-atom-init c = let z = size_none (full c.args.self.now) in (omega arith, sym z)
-
-pub loop-atom-preserved : goal.loop-atom-preserved
-loop-atom-preserved c =
-    let p = c.args.self.now in
-    let a = c.loop-atom.atom in
-    let at : (s : Status) → c.status.result ≡ s → full p a ≡ is_in s = λ s e. full_place p a ∙ ap is_in (sym c.status.ensures ∙ e) in
-    elim c.match-status.branch [
-      | in-In w ↦ let m = size_more a (full p) _ (at _ w.in-In.is) in (omega (arith, w.count-is), omega (arith, w.count-is))
-      | in-Out w ↦ let m = size_more a (full p) _ (at _ w.in-Out.is) in (omega (arith, w.count-is), omega (arith, w.count-is))
-      | in-Open w ↦ let m = size_more a (full p) _ (at _ w.in-Open.is) in (omega (arith, w.count-is), omega (arith, w.count-is))
-    ]
+pub returns : goal.returns
+returns c =
+    let e = count_from_yields_List c.filter.result _ c.count.ensures.ran (YieldsList-from_filter _ (full c.args.self.now) (YieldsList-at c.filter.ensures.source (YieldsList-from_range 0 255 255 (cc) (omega arith))) c.filter.ensures.closure (λ x r q k. search (rules, tests))) in
+    e ∙ counted (full c.args.self.now) 255

@@ -1,31 +1,29 @@
-use Rattle.std.proofs.Common.{◌≡◌, length, refl, arith}
-use Rattle.std.proofs.lemmas.Result.{err_from_is_err_and}
+use Rattle.std.proofs.Common.{◌≡◌, true, length, rules, refl, ◌∙◌}
 use Rattle.records.specs.Bytes.{replicated_at}
-use Rattle.records.specs.Decoding.{tests_broke, tests_kept, image_is, all_passed}
+use Rattle.records.specs.Decoding.{tests_are, image_is}
+use Rattle.records.specs.Faults.{all_are}
 use Rattle.sources.specs.Tables.{table_tests}
 use Rattle.sources.proofs.table_record.TableRecordRecord.decode.Goals as goal
 
-pub returns-in_err-check_table : goal.returns-in_err-check_table
-returns-in_err-check_table c =
-    let p = err_from_is_err_and c.from_residual-in_err-check_table.result c.from_residual-in_err-check_table.ensures.1 in
-    let bad = tests_broke 83 84 table_tests c.args.bytes.now c.read_frame.result c.read_frame.ensures c.in_ok-fields.fields c.in_ok-fields.was c.check_table.result c.check_table.ensures _ c.in_err-check_table.was in
-    rw (p.1, p.2) (record { fault = bad; value = tt })
+pub returns-in_err-demand-clause-fault : goal.returns-in_err-demand-clause-fault
+returns-in_err-demand-clause-fault c =
+    search rules ∙ tests_are 83 84 table_tests _ _ c.read_frame.ensures _ c.in_ok-fields.was
 
-pub invariant_of-result : goal.invariant_of-result
-invariant_of-result c =
-    let f = c.in_ok-fields.fields in
-    let p = all_passed (table_tests f) c.check_table.result _ c.check_table.ensures c.in_ok-check_table.was in
-    let a : length f.atoms ≡ 8 = omega arith in
-    let b : length f.body ≡ 32 = omega arith in
-    record { inputs_long = a; inputs_ok = p.0; bits_long = b; unused_ok = p.1.0 }
+pub returns-in_err-demand-2-clause-fault : goal.returns-in_err-demand-2-clause-fault
+returns-in_err-demand-2-clause-fault c =
+    search rules ∙ tests_are 83 84 table_tests _ _ c.read_frame.ensures _ c.in_ok-fields.was
 
-pub returns : goal.returns
-returns c =
-    let bs = c.args.bytes.now in
+pub returns-in_err-demand-3-clause-fault : goal.returns-in_err-demand-3-clause-fault
+returns-in_err-demand-3-clause-fault c =
+    search rules ∙ tests_are 83 84 table_tests _ _ c.read_frame.ensures _ c.in_ok-fields.was
+
+pub returns-clause-fault : goal.returns-clause-fault
+returns-clause-fault c =
+    search rules ∙ tests_are 83 84 table_tests _ _ c.read_frame.ensures _ c.in_ok-fields.was
+
+pub returns-clause-value : goal.returns-clause-value
+returns-clause-value c =
     let f = c.in_ok-fields.fields in
-    let p = all_passed (table_tests f) c.check_table.result _ c.check_table.ensures c.in_ok-check_table.was in
-    let l : length f.tail ≡ 4 = omega arith in
-    record {
-      fault = tests_kept 83 84 table_tests bs c.read_frame.result c.read_frame.ensures f c.in_ok-fields.was c.check_table.result c.check_table.ensures _ c.in_ok-check_table.was;
-      value = image_is 83 84 table_tests bs c.read_frame.result c.read_frame.ensures f c.in_ok-fields.was _ _ _ refl refl (replicated_at 4 0 f.tail l p.1.1.0);
-    }
+    let long : length f.tail ≡ 4 = search rules in
+    let empty : all_are 0 f.tail ≡ true = search rules in
+    image_is 83 84 table_tests _ _ c.read_frame.ensures _ c.in_ok-fields.was _ _ _ refl refl (replicated_at 4 0 f.tail long empty)

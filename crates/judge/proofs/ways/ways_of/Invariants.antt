@@ -1,9 +1,0 @@
-use Rattle.std.proofs.Common.{length}
-use Rattle.judge.specs.Ways.{Leaves, HeadIn, Meets, Known}
-use Rattle.judge.proofs.ways.ways_of.Given as goal
-
-abbrev pub invariant-loop-a : goal.invariant-loop-a
-invariant-loop-a g l = Leaves l.rest (HeadIn l.row.head l.a-index) (Known (g.O.Oracle.meaning l.oracle) l.row.body) l.left
-
-abbrev pub invariant-loop-t : goal.invariant-loop-t
-invariant-loop-t g l = Leaves l.rest (Meets (g.O.Oracle.meaning l.oracle) l.row (length l.row.head) l.t-index) (Known (g.O.Oracle.meaning l.oracle) l.row.body) l.left

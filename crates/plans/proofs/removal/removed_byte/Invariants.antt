@@ -1,7 +1,0 @@
-use Rattle.std.proofs.Common.{◌≡◌, ◌+◌, ◌-◌, ◌*◌}
-use Rattle.plans.specs.Bits.{bits_from}
-use Rattle.plans.specs.Partial.{removed}
-use Rattle.plans.proofs.removal.removed_byte.Given as goal
-
-abbrev pub invariant-loop-j : goal.invariant-loop-j
-invariant-loop-j l = l.byte ≡ bits_from (removed l.plan l.stays) (8 * l.k + 8 - l.j) l.j

@@ -1,9 +1,0 @@
-use Rattle.std.proofs.Common.{◌≡◌, ◌+◌, ◌*◌, ◌^◌, ◌≤◌, drop}
-use Rattle.record_oracles.specs.Inputs.{filled}
-use Rattle.record_oracles.specs.Sums.{weight_in}
-use Rattle.record_oracles.proofs.sums.weight.Given as goal
-
-abbrev pub invariant-loop-t : goal.invariant-loop-t
-invariant-loop-t l =
-    (l.sum + weight_in (filled l.open_in l.plan) (drop l.t-index l.terms) ≡ weight_in (filled l.open_in l.plan) l.terms)
-    × (l.sum ≤ l.t-index * 2 ^ 32)
