@@ -4,8 +4,8 @@ use Rattle.std.proofs.lemmas.Bool.{eqb-true, both_ways, cases_lt, not-false}
 use Rattle.semantics.specs.Program.{Interp, Meaning}
 use Rattle.plans.specs.Partial.{Decided, place_at, Within, Opened}
 use Rattle.plans.specs.declared.partial_plan.PartialPlan.{PartialPlan}
-use Rattle.plans.specs.declared.partial_plan.Status.TheVariants.{In, Out, Open}
-use Rattle.plans.proofs.Partial.{place_in, place_out, place_open}
+use Rattle.plans.specs.declared.partial_plan.Status.TheVariants.{Out, Open}
+use Rattle.plans.proofs.Partial.{place_out, place_open}
 use Rattle.records.specs.declared.literal.Literal.{Literal}
 use Rattle.records.specs.declared.literal.Literal.TheVariants.{Atom, NotAtom, Source, NotSource}
 use Rattle.records.specs.declared.row.RuleRow.{RuleRow}
@@ -129,15 +129,6 @@ module _ (b : Meaning) (p : PartialPlan) (r : RuleRow) where
       (λ (x : HeadIn r.head H K). inl x)
       (λ (x : Fails b B (length B) K). inr (record { place = x.place; before = (let lt = x.before in omega arith); fails = x.fails })))
       s h)
-
-  pub by_head : (i : ℕ) → i < length r.head → place_at p (get_or r.head i 0) ≡ In → Asks p (Sat b r) N Several
-  by_head i lt e = λ n d K w. inl (record { place = i; before = lt; in_plan = place_in p (get_or r.head i 0) e K w })
-
-  pub by_body : (i : ℕ) → i < length B → ((K : Interp) → Within p K → place_true b K (get_or B i None) ≡ false) → Asks p (Sat b r) N Several
-  by_body i lt f = λ n d K w. inr (record { place = i; before = lt; fails = f K w })
-
-  pub given_up : (i : ℕ) → Leaves p (Meets b r H i) N Several → Asks p (Sat b r) N Several
-  given_up i h = λ n d. absurd (h n d)
 
 -- what one rule asks is asked by all
 pub asked_by_all : (p : PartialPlan) (N M : Type 0) (Q R : Interp → Type 0) → ((K : Interp) → R K → Q K) → (s : Ways) → is_several s ≡ false → Asks p Q N s → Asks p R M s

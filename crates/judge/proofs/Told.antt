@@ -1,24 +1,18 @@
 -- The answers of a check, step by step. Assumes nothing.
-use Rattle.std.proofs.Common.{◌≡◌, ℕ, ◌<◌, ◌≤◌, Bool, true, false, cond, ◌&&◌, eqb, ltb, List, length, Some, None, Result, subst, sym, refl, ap, ◌∙◌, ⊎_elim, arith}
-use mathlib.Core.Path.{fun_ext}
+use Rattle.std.proofs.Common.{◌≡◌, ℕ, ◌<◌, ◌≤◌, Bool, true, false, eqb, ltb, List, length, Some, None, refl, ap, ◌∙◌, arith}
 use mathlib.Core.Option.{Option, none, some}
-use Rattle.std.proofs.lemmas.Bool.{both_ways, cases_Bool, and_left, lt-ltb, le-ltb, ltb-true, eq-eqb}
+use Rattle.std.proofs.lemmas.Bool.{both_ways, lt-ltb, le-ltb, eq-eqb}
 use Rattle.semantics.specs.Program.{Interp, Plan, Rule, Meaning, atom_limit}
 use Rattle.semantics.specs.Judge as J
 use Rattle.semantics.specs.Check.{Checked, fault, answered, checked, sources_known, size_below, search_limit}
 use Rattle.semantics.proofs.Verdicts.{judge_right}
-use Rattle.plans.specs.Bits.{marked}
-use Rattle.plans.specs.Partial.{Decided, status_at, is_in, full, Opens, removed}
+use Rattle.plans.specs.Partial.{Decided, full, Opens, removed}
 use Rattle.plans.specs.declared.partial_plan.PartialPlan.{PartialPlan}
-use Rattle.plans.specs.declared.partial_plan.Status.{Status}
-use Rattle.plans.specs.declared.partial_plan.Status.TheVariants.{In, Out}
 use Rattle.plans.proofs.Partial.{full_within}
 use Rattle.records.specs.declared.row.RuleRow.{RuleRow}
 use Rattle.rulebook.specs.Rules.{rules_of}
 use Rattle.judge.specs.Search.{Live, Fit, Found}
-use Rattle.judge.specs.Outcome.{outcome, Told}
-use Rattle.judge.specs.declared.verdict.Verdict.{Verdict}
-use Rattle.judge.specs.declared.verdict.CallFault.{CallFault}
+use Rattle.judge.specs.Outcome.{outcome}
 use Rattle.judge.proofs.Satisfied.{unbroken}
 use Rattle.judge.proofs.Unfounded.{free_when, earliest}
 
@@ -73,29 +67,3 @@ module _ (m : Meaning) (rows : List RuleRow) (live : List Bool) (plan rest : Par
   judged_unfounded d s f =
       let ok = unbroken m (full plan) 0 (rules_of rows) unbroken-all in
       (judge_right (rules_of rows) m (full plan) (is_plan plan) (J.unfounded (removed plan s))).1 (ok, earliest m rows live plan rest is_live opens d ok s f)
-
--- what is told of the same rules, sources and plan is the same
-pub same_told : {rules rules' : List Rule} {m m' : Meaning} {I I' : Interp} → rules ≡ rules' → m ≡ m' → I ≡ I' → (before after : List ℕ) (r : Result Verdict CallFault) → Told (outcome rules m I before) before after r → Told (outcome rules' m' I' before) before after r
-same_told {rules' = rules'} {m = m} {m' = m'} {I = I} same_rules same_meaning same_plan before after r =
-    subst (λ (c : Checked). Told c before after r)
-    (ap (λ (x : List Rule). outcome x m I before) same_rules ∙ ap (λ (x : Meaning). outcome rules' x I before) same_meaning ∙ ap (λ (x : Interp). outcome rules' m' x before) same_plan)
-
--- the plan that is made of the marks
-told : (v : Bool) → is_in (cond v In Out) ≡ v
-told true = refl
-told false = refl
-
-module _ (bytes : List ℕ) (plan : PartialPlan) (h : (a : ℕ) → a < atom_limit → status_at plan a ≡ cond (marked bytes a) In Out) where
-  pub marks_full : full plan ≡ marked bytes
-  marks_full = fun_ext (λ a. go a (λ t. h a (ltb-true a atom_limit t)))
-    where
-      inside : (x v : Bool) → x ≡ true → (x && (x && v)) ≡ (x && v)
-      inside true v e = refl
-      inside false v e = refl
-
-      go : (a : ℕ) → (ltb a atom_limit ≡ true → status_at plan a ≡ cond (marked bytes a) In Out) → full plan a ≡ marked bytes a
-      go a f =
-          ⊎_elim
-          (λ (e : ltb a atom_limit ≡ true). ap (λ (s : Status). ltb a atom_limit && is_in s) (f e) ∙ ap (λ (v : Bool). ltb a atom_limit && v) (told (marked bytes a)) ∙ inside (ltb a atom_limit) _ e)
-          (λ (e : ltb a atom_limit ≡ false). and_left (ltb a atom_limit) _ e ∙ sym (and_left (ltb a atom_limit) _ e))
-          (cases_Bool (ltb a atom_limit))

@@ -1,7 +1,7 @@
 -- A run of rule records added one by one. Assumes nothing.
-use Rattle.std.proofs.Common.{◌≡◌, ℕ, ◌+◌, ◌*◌, Result, Ok, Err, is_ok, true, false, List, [], ◌∷◌, ◌++◌, map, length, take, drop, sym, refl, ap, ◌∙◌, subst, arith}
+use Rattle.std.proofs.Common.{◌≡◌, ℕ, ◌+◌, ◌*◌, Result, Ok, Err, is_ok, true, false, List, [], ◌∷◌, ◌++◌, map, take, drop, sym, refl, ap, ◌∙◌}
 use Rattle.std.proofs.lemmas.Grind.{flat_map-append}
-use Rattle.std.proofs.lemmas.List.{append_assoc, map-append, map_push, take_all}
+use Rattle.std.proofs.lemmas.List.{append_assoc, map-append, map_push}
 use Rattle.std.proofs.lemmas.Bool.{both_ways}
 use Rattle.rulebook.specs.Books.{Added}
 use Rattle.rulebook.specs.declared.book_fault.BookFault.{BookFault}
@@ -21,9 +21,6 @@ added_more run before mid after k n long h v image is =
       images = read_more rule_image 48 rule_size h.rules v run k h.images (image ∙ ap (λ (j : ℕ). take j (drop (48 * k) run)) long);
       rows = is ∙ ap (λ (rows : List RuleRow). rows ++ row_of v ∷ []) h.rows ∙ append_assoc before (map row_of h.rules) (row_of v ∷ []) ∙ ap (λ (rows : List RuleRow). before ++ rows) (sym (map_push row_of h.rules v));
     }
-
-pub added_all : (run : List ℕ) (before after : List RuleRow) (k : ℕ) → length run ≡ 48 * k → AddedRun (take (48 * k) run) before after → AddedRun run before after
-added_all run before after k e h = subst (λ (r : List ℕ). AddedRun r before after) (take_all (48 * k) run (omega arith)) h
 
 pub added_both : (one two : List ℕ) (before mid after : List RuleRow) → AddedRun one before mid → AddedRun two mid after → AddedRun (one ++ two) before after
 added_both one two before mid after h k =

@@ -8,10 +8,6 @@ use Rattle.std.specs.Io.KnownBytes.{Appends}
 use Rattle.lines.specs.Padded.{Answered, padded}
 use Rattle.judge.specs.declared.verdict.CallFault.{CallFault}
 
-pub nothing_appended : (a : Option (List ℕ)) → Appends a a []
-nothing_appended None = tt
-nothing_appended (Some xs) = sym (append-nil xs)
-
 pub more_appended : (a b c : Option (List ℕ)) (xs ys : List ℕ) → Appends a b xs → Appends b c ys → Appends a c (xs ++ ys)
 more_appended None b c xs ys h k = tt
 more_appended (Some os) None c xs ys h k = absurd h
@@ -40,6 +36,3 @@ accepts (Err e) = ⊥
 
 pub not_both : {A E : Type 0} (x : A) (e : E) → ◌≡◌ {A = Result A E} (Ok x) (Err e) → ⊥
 not_both x e k = subst accepts k tt
-
-pub same_fault : {A E : Type 0} (d e : E) → ◌≡◌ {A = Result A E} (Err d) (Err e) → d ≡ e
-same_fault d e k = cc

@@ -72,20 +72,6 @@ module _ (f : File) (b c : Counts) (k : Kind) (ordered : in_order f c k ≡ true
   placed : (r : Result Kind RecordFault) → Ok k ≡ r → stepped f b c r ≡ unless (no_room b c k) (one_more c k)
   placed r e = ap (stepped f b c) (sym e) ∙ ap (λ (t : Bool). cond t (unless (no_room b c k) (one_more c k)) (Err Order)) ordered
 
-  pub step_taken : (r : Result Kind RecordFault) (u : Unit {0}) → Ok k ≡ r → Ok u ≡ unless (no_room b c k) tt → stepped f b c r ≡ Ok (one_more c k)
-  step_taken r u e h = placed r e ∙ go (no_room b c k) h
-    where
-      go : (o : Option Cause) → Ok u ≡ unless o tt → unless o (one_more c k) ≡ Ok (one_more c k)
-      go None h = refl
-      go (Some x) h = absurd (let z : ◌≡◌ {A = ℕ} 0 1 = cc in omega arith)
-
-  pub step_full : (r : Result Kind RecordFault) (x : Cause) → Ok k ≡ r → ◌≡◌ {A = Result (Unit {0}) Cause} (Err x) (unless (no_room b c k) tt) → stepped f b c r ≡ Err x
-  step_full r x e h = placed r e ∙ go (no_room b c k) h
-    where
-      go : (o : Option Cause) → ◌≡◌ {A = Result (Unit {0}) Cause} (Err x) (unless o tt) → unless o (one_more c k) ≡ Err x
-      go None h = absurd (let z : ◌≡◌ {A = ℕ} 0 1 = cc in omega arith)
-      go (Some y) h = let e : x ≡ y = cc in ap Err (sym e)
-
 -- what a result is, once its cause has the record's place
 abbrev pub filed : ℕ → Result Sections Cause → Result Sections FileFault
 filed k (Ok s) = Ok s

@@ -1,5 +1,5 @@
 -- The interpretations that agree with a partial plan lie between its two fillings. Assumes nothing.
-use Rattle.std.proofs.Common.{◌≡◌, ℕ, ◌<◌, ◌≤◌, Bool, true, false, cond, ◌&&◌, ltb, leb, Some, None, sym, refl, ◌∙◌, subst, arith}
+use Rattle.std.proofs.Common.{◌≡◌, ℕ, ◌<◌, ◌≤◌, Bool, true, false, cond, ◌&&◌, ltb, leb, None, sym, refl, ◌∙◌, subst}
 use Rattle.std.proofs.lemmas.Bool.{ltb-true, le-leb, lt-leb, lt-ltb, both_ways, cond-true}
 use Rattle.semantics.specs.Program.{Interp, atom_limit}
 use Rattle.plans.specs.declared.partial_plan.Status.{Status}
@@ -53,12 +53,6 @@ below_high p I ag a e = holds_filled true p a ∙ high_in (place_at p a) (holds 
 
 -- an amount that only grows as more inputs come in, against a bound
 module _ (f : Interp → ℕ) (grows : Grows f) (bound : ℕ) (p : PartialPlan) where
-  pub reached_at_least : bound ≤ f (filled false p) → Settles (λ I. leb bound (f I)) p (Some true)
-  reached_at_least e I ag = le-leb bound (f I) (omega (arith, e, grows (filled false p) I (low_below p I ag)))
-
-  pub missed_at_most : f (filled true p) < bound → Settles (λ I. leb bound (f I)) p (Some false)
-  missed_at_most e I ag = lt-leb bound (f I) (omega (arith, e, grows I (filled true p) (below_high p I ag)))
-
   pub differs_between : f (filled false p) < bound → bound ≤ f (filled true p) → Settles (λ I. leb bound (f I)) p None
   differs_between low high = record {
     one = filled true p;

@@ -1,13 +1,9 @@
 use Rattle.std.proofs.Common.{◌≡◌, ◌+◌, length, sym, ap, ◌∙◌, subst}
 use Rattle.judge.specs.Ways.{Leaves, HeadIn, Meets, Known, ways_and}
 use Rattle.judge.specs.declared.ways.Ways.{Ways}
-use Rattle.judge.proofs.Satisfying.{heads_out, heads_open, body_none, body_true, body_unsure, done, by_head, by_body, given_up, several_is}
+use Rattle.judge.proofs.Satisfying.{heads_out, heads_open, body_none, body_true, body_unsure, done}
 use Rattle.judge.proofs.truth.View.ways.Goals as goal
 use Rattle.judge.proofs.truth.View.ways.Goals.{in-Out, in-Open, in-Some-true, in-None}
-
-pub returns-in-In : goal.returns-in-In
-returns-in-In g c =
-    by_head (g.O.Oracle.meaning c.args.self.now.oracle.now) c.args.self.now.plan.now c.args.row.now c.loop-a.a-index c.loop-a-test.true (sym c.status.ensures ∙ c.in-In.is)
 
 pub loop-a-preserved : goal.loop-a-preserved
 loop-a-preserved g c =
@@ -24,10 +20,6 @@ loop-a-preserved g c =
 pub loop-t-init : goal.loop-t-init
 loop-t-init g c =
     body_none (g.O.Oracle.meaning c.args.self.now.oracle.now) c.args.self.now.plan.now c.args.row.now c.loop-a.a-index c.loop-a.left c.loop-a-test.false c.loop-a.invariant
-
-pub returns-in-Some-false : goal.returns-in-Some-false
-returns-in-Some-false g c =
-    by_body (g.O.Oracle.meaning c.args.self.now.oracle.now) c.args.self.now.plan.now c.args.row.now c.loop-t.t-index c.loop-t-test.true (rw c.in-Some-false.field-0-test at c.in-Some-false.ensures)
 
 pub loop-t-preserved : goal.loop-t-preserved
 loop-t-preserved g c =
@@ -47,11 +39,3 @@ loop-t-preserved g c =
 pub returns : goal.returns
 returns g c =
     done (g.O.Oracle.meaning c.args.self.now.oracle.now) c.args.self.now.plan.now c.args.row.now c.loop-t.t-index c.loop-t.left c.loop-t-test.false c.loop-t.invariant
-
-pub returns-then-is_several : goal.returns-then-is_several
-returns-then-is_several g c =
-    let m = g.O.Oracle.meaning c.args.self.now.oracle.now in
-    let p = c.args.self.now.plan.now in
-    let r = c.args.row.now in
-    let is = several_is c.loop-t.left (sym c.is_several.ensures ∙ c.if-is_several.true) in
-    given_up m p r c.loop-t.t-index (subst (Leaves p (Meets m r (length r.head) c.loop-t.t-index) (Known m r.body)) is c.loop-t.invariant)

@@ -1,7 +1,4 @@
-use Rattle.std.proofs.Common.{◌<◌, ◌≤◌, true, false, length, sym, ◌∙◌, arith, rules}
-use Rattle.std.proofs.lemmas.List.{at_drop_all}
-use Rattle.record_oracles.specs.Inputs.{atoms_in}
-use Rattle.record_oracles.specs.Sums.{weight_in}
+use Rattle.std.proofs.Common.{◌<◌, true, false, length, sym, ◌∙◌, arith, rules}
 use Rattle.record_oracles.proofs.Weights.{weight_more}
 use Rattle.record_oracles.proofs.sums.SumSourceAmount.amount.Goals as goal
 use Rattle.record_oracles.proofs.sums.SumSourceAmount.amount.Goals.{then-has, else-has}
@@ -18,8 +15,3 @@ loop-t-preserved c =
           let here = more _ false within (sym w.if-has.false ∙ c.has.ensures) in
           (omega arith, omega arith)
     ]
-
-pub returns : goal.returns
-returns c =
-    let all : length c.args.self.now.terms ≤ c.loop-t.t-index = search rules in
-    omega (arith, c.loop-t.invariant.0, at_drop_all (weight_in (atoms_in c.args.plan)) c.args.self.now.terms c.loop-t.t-index all)
