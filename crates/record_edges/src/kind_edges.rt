@@ -34,9 +34,16 @@ fn check_kinds(table: Table<'_>, kind: Kind) -> Result<(), Fail> {
     table.check_rows(|label, bytes, want| check_kind(label, bytes, kind, want))
 }
 
+fn check_tables(tables: &[(Table<'_>, Kind)]) -> Result<(), Fail> {
+    for (table, kind) in tables {
+        check_kinds(*table, *kind)?;
+    }
+    Ok(())
+}
+
 #[test]
-fn edges() -> Result<(), Fail> {
-    let tables = [
+fn letters() -> Result<(), Fail> {
+    check_tables(&[
         (
             Table("letters", rule_edges::BASE, &RULE_LETTERS),
             Kind::Rule,
@@ -49,6 +56,12 @@ fn edges() -> Result<(), Fail> {
             Table("table as sum", table_edges::BASE, &TABLE_AS_SUM),
             Kind::Sum,
         ),
+    ])
+}
+
+#[test]
+fn edges() -> Result<(), Fail> {
+    check_tables(&[
         (
             Table("rule", rule_edges::BASE, &rule_edges::EDGES),
             Kind::Rule,
@@ -70,11 +83,7 @@ fn edges() -> Result<(), Fail> {
             Table("week", week_edges::BASE, &week_edges::EDGES),
             Kind::Week,
         ),
-    ];
-    for (table, kind) in &tables {
-        check_kinds(*table, *kind)?;
-    }
-    Ok(())
+    ])
 }
 
 // No kind is asked where the length is wrong.
