@@ -1,19 +1,18 @@
 // The rules that a plan makes true in the body, and the lowest of them that it breaks.
-ghost use Rattle.std.specs.Prelude.{◌≡◌, ◌<◌, ◌≤◌, true, length, slice_index_or};
-ghost use Rattle.semantics.specs.Program.{any, all, body_true, literal_true};
+ghost use Rattle.std.specs.Prelude.{◌≡◌, ◌≤◌, true, length};
+ghost use Rattle.semantics.specs.Program.{any, all, literal_true};
 ghost use Rattle.semantics.specs.Judge.{first_broken};
 ghost use Rattle.semantics.specs.Check.{sources_known};
 ghost use Rattle.plans.specs.Partial.{Decided, full};
-ghost use Rattle.rulebook.specs.Rules.{head_of, body_of, rule_of, rules_of, no_row};
+ghost use Rattle.rulebook.specs.Rules.{head_of, body_of, rules_of};
 ghost use Rattle.judge.specs.Ways.{Known};
-ghost use Rattle.judge.specs.Search.{KnownAll, Live};
+ghost use Rattle.judge.specs.Search.{Live};
 ghost use Rattle.judge.specs.Outcome.{as_option};
 
 use crate::truth::View;
 use oracles::Oracle;
 use plans::PartialPlan;
 use records::{Literal, RuleRow};
-use std::array;
 
 impl<O: Oracle> View<'_, O> {
     // Whether the plan makes a whole body true.
@@ -21,13 +20,6 @@ impl<O: Oracle> View<'_, O> {
         ensures { Known (O.Oracle.meaning self.now.oracle.now) body.now → Decided self.now.plan.now → result ≡ all (literal_true (O.Oracle.meaning self.now.oracle.now) (full self.now.plan.now)) (body_of body.now) }
     {
         body.iter().all(|place| self.truth(*place) == Some(true))
-    }
-
-    // Whether the plan makes the body of a rule true.
-    fn is_live(&self, rows: &[RuleRow], number: usize) -> bool
-        ensures { KnownAll (O.Oracle.meaning self.now.oracle.now) rows.now → Decided self.now.plan.now → number < length rows.now → result ≡ body_true (O.Oracle.meaning self.now.oracle.now) (full self.now.plan.now) (rule_of (slice_index_or rows.now number no_row)) }
-    {
-        number < rows.len() && self.holds(&rows[number].body)
     }
 }
 
@@ -61,7 +53,12 @@ impl<'a, O: Oracle> Reduct<'a, O> {
         ensures oracle { result.oracle.now ≡ oracle.now }
         ensures plan { result.plan.now ≡ plan.now }
     {
-        let live = array::from_fn(|number| View { oracle, plan }.is_live(rows, number));
+        let view = View { oracle, plan };
+        let mut live = [false; 256];
+        // A loop over the rules: an array from a function asks at each of the 256 places whether there is one.
+        for (number, row) in rows.iter().enumerate() {
+            live[number] = view.holds(&row.body);
+        }
         Reduct {
             rows,
             live,

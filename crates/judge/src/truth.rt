@@ -31,7 +31,8 @@ impl<O: Oracle> View<'_, O> {
         }
     }
 
-    // The truth of a place of a body. An unused place asks nothing, so it is true.
+    // The truth of a place of a body. An unused place asks nothing, so it is true. Always inline, since each check asks it of each literal.
+    #[inline(always)]
     pub(crate) fn truth(&self, place: Option<Literal>) -> Option<bool>
         ensures { Tells (O.Oracle.meaning self.now.oracle.now) self.now.plan.now place result }
     {

@@ -27,8 +27,8 @@ fn print_plans<W: Write>(office: &Office, out: &mut W) -> io::Result<()>
     Ok(())
 }
 
-// Judges the plans of two files and writes a line for each, or the line of the file that is bad. Where memory is wanting
-// nothing is written, and no file is bad.
+// Judges the plans of two files and writes a line for each, or the line of the file that is bad. Where the memory to read
+// them is wanting nothing is written, and no file is bad.
 pub fn print_judgement<W: Write>(
     heap: Global,
     house: &[u8],

@@ -1,15 +1,13 @@
 -- Partial plans and the interpretations that they leave. Assumes nothing.
-use Rattle.std.proofs.Common.{◌≡◌, ℕ, zero, suc, ◌+◌, ◌<◌, ◌≤◌, Bool, true, false, cond, ◌&&◌, List, [], ◌∷◌, ◌++◌, length, filter, Option, Some, None, MatchOption, eqb, ltb, length-append, map-id, sym, refl, ap, ◌∙◌, subst, ⊎_elim, arith}
-use Rattle.std.proofs.lemmas.Bool.{ltb-true, ltb-false, lt-ltb, both_ways, cases_Bool, cases_eq, and_parts, cond-true, cond-false, eq-eqb, ne_eqb}
-use Rattle.std.specs.List.{range_with_len}
-use Rattle.std.proofs.lemmas.List.Elements.{filter-append}
-use Rattle.std.proofs.lemmas.List.FromFn.{map-range_with_len_more}
+use Rattle.std.proofs.Common.{◌≡◌, ℕ, zero, suc, ◌+◌, ◌<◌, ◌≤◌, Bool, true, false, cond, ◌&&◌, eqb, ltb, sym, refl, ap, ◌∙◌, subst, ⊎_elim, arith}
+use mathlib.Core.Path.{fun_ext}
+use Rattle.std.proofs.lemmas.Bool.{ltb-true, ltb-false, lt-ltb, both_ways, cases_Bool, cases_lt, cases_eq, and_parts, cond-true, cond-false, eq-eqb, ne_eqb, false_from_ne_true}
 use Rattle.semantics.specs.Program.{Interp, atom_limit}
 use Rattle.semantics.specs.Check.{size_below}
 use Rattle.plans.specs.declared.partial_plan.Status.{Status}
 use Rattle.plans.specs.declared.partial_plan.Status.TheVariants.{Open, In, Out}
 use Rattle.plans.specs.declared.partial_plan.PartialPlan.{PartialPlan}
-use Rattle.plans.specs.Partial.{status_at, place_at, Admits, is_in, full, Within, Opened, Decides, LowestOpen, open_one, open_below}
+use Rattle.plans.specs.Partial.{status_at, place_at, Admits, Decided, is_in, full, Within, Opened, Decides, open_one, open_below}
 
 true_and : (x y : Bool) → x ≡ true → (x && y) ≡ y
 true_and true y e = refl
@@ -73,6 +71,18 @@ pub settled : (s : Status) (x : Bool) → (s ≡ Open → ⊥) → Admits s x �
 settled Open x d h = absurd (d refl)
 settled In x d h = h
 settled Out x d h = h
+
+-- with no atom open it is the only one
+pub only_full : (p : PartialPlan) (K : Interp) → Decided p → Within p K → K ≡ full p
+only_full p K d w = fun_ext (λ a. ⊎_elim (λ (lt : a < atom_limit). inside a lt) (λ (ge : atom_limit ≤ a). outside a ge) (cases_lt a atom_limit))
+  where
+    inside : (a : ℕ) → a < atom_limit → K a ≡ full p a
+    inside a lt = settled (status_at p a) (K a) (d a lt) (w.agrees a lt) ∙ sym (full_at p a lt)
+
+    outside : (a : ℕ) → atom_limit ≤ a → K a ≡ full p a
+    outside a ge =
+        false_from_ne_true (K a) (λ e. let lt = w.small a e in omega arith)
+        ∙ sym (false_from_ne_true (full p a) (λ e. let lt = (full_within p).small a e in omega arith))
 
 -- one open atom decided
 module _ (p q : PartialPlan) (a : ℕ) (s : Status) (o : Opened p a) (d : Decides p a s q) where
@@ -140,29 +150,3 @@ size_none I = refl
 pub size_more : (n : ℕ) (I : Interp) (b : Bool) → I n ≡ b → size_below (n + 1) I ≡ cond b 1 0 + size_below n I
 unfolding size_below
 size_more n I b e = let s : n + 1 ≡ suc n = omega arith in ap (λ (k : ℕ). size_below k I) s ∙ ap (λ (t : Bool). cond t 1 0 + size_below n I) e
-
--- a count of those that are in is the size
-range_more : (n : ℕ) → range_with_len 0 (n + 1) ≡ range_with_len 0 n ++ n ∷ []
-range_more n = sym (map-id (range_with_len 0 (n + 1))) ∙ map-range_with_len_more (λ (x : ℕ). x) 0 n n (omega arith) ∙ ap (λ (xs : List ℕ). xs ++ n ∷ []) (map-id (range_with_len 0 n))
-
-one_kept : (I : Interp) (n : ℕ) (b : Bool) → I n ≡ b → length (filter I (n ∷ [])) ≡ cond b 1 0
-one_kept I n true e = rw e refl
-one_kept I n false e = rw e refl
-
-pub counted : (I : Interp) (n : ℕ) → length (filter I (range_with_len 0 n)) ≡ size_below n I
-counted I zero = sym (size_none I)
-counted I (suc n) =
-    let cut : length (filter I (range_with_len 0 (n + 1))) ≡ length (filter I (range_with_len 0 n)) + length (filter I (n ∷ [])) =
-    ap (λ (xs : List ℕ). length (filter I xs)) (range_more n) ∙ ap (λ (xs : List ℕ). length xs) (filter-append I (range_with_len 0 n) (n ∷ [])) ∙ length-append (filter I (range_with_len 0 n)) (filter I (n ∷ [])) in
-    let one = one_kept I n (I n) refl in
-    let more = size_more n I (I n) refl in
-    let s : suc n ≡ n + 1 = omega arith in
-    ap (λ (k : ℕ). length (filter I (range_with_len 0 k))) s ∙ omega (arith, cut, one, more, counted I n) ∙ ap (λ (k : ℕ). size_below k I) (sym s)
-
--- the first place that is open
-placed : (p : PartialPlan) (a : ℕ) → a < atom_limit → place_at p a ≡ status_at p a
-placed p a lt = cond-true (ltb a atom_limit) (status_at p a) Out (lt-ltb a atom_limit lt)
-
-pub lowest_place : (p : PartialPlan) (r : Option ℕ) → MatchOption r ((k : ℕ) → 0 ≤ k → k < atom_limit → place_at p k ≡ Open → ⊥) (λ a. (0 ≤ a) × (a < atom_limit) × (place_at p a ≡ Open) × ((k : ℕ) → 0 ≤ k → k < a → place_at p k ≡ Open → ⊥)) → LowestOpen p r
-lowest_place p None h = λ a lt o. h a (omega arith) lt (placed p a lt ∙ o)
-lowest_place p (Some a) h = (place_open p a h.2, λ c lt o. h.3 c (omega arith) lt (placed p c (let small = h.1 in omega arith) ∙ o))

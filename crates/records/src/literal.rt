@@ -1,6 +1,7 @@
 // The literals of a rule's body.
 ghost use Rattle.std.specs.Prelude.{◌≡◌};
 ghost use Rattle.std.specs.List.{flat_map};
+ghost use Rattle.records.specs.Faults.{all_are};
 ghost use Rattle.records.specs.Literals.{literal_of, pair_of, body_of, body_rule};
 
 use crate::fault::all_are;
@@ -62,6 +63,13 @@ pub(crate) fn body_bytes(body: &[Option<Literal>; 16]) -> [u8; 32]
     *pairs.as_flattened().as_array().unwrap()
 }
 
+// Whether nothing is written at a place.
+fn is_unused(pair: &[u8; 2]) -> bool
+    ensures { result ≡ all_are 0 pair.now }
+{
+    all_are(pair, 0)
+}
+
 // Whether the bytes are literals, and then nothing.
 pub(crate) fn body_keeps(bytes: &[u8; 32]) -> bool
     ensures { result ≡ body_rule bytes.now }
@@ -70,5 +78,5 @@ pub(crate) fn body_keeps(bytes: &[u8; 32]) -> bool
     pairs
         .iter()
         .skip_while(|pair| read_literal(pair[0], pair[1]).is_some())
-        .all(|pair| all_are(pair, 0))
+        .all(|pair| is_unused(pair))
 }

@@ -56,11 +56,14 @@ week_single s t e =
       first_ok = is_prop→PathP (λ k. d k < 7) (λ k. le_prop) s.first_ok t.first_ok j;
     }
 
--- a tail that keeps its rule is its two numbers and two zeros
-pub tail_bytes : (t : List ℕ) → length t ≡ 4 → week_tail t ≡ true → slice_index t 0 ∷ slice_index t 1 ∷ 0 ∷ 0 ∷ [] ≡ t
+-- a tail that ends in zeros is its two numbers and two zeros
+pub tail_bytes : (t : List ℕ) → length t ≡ 4 → all_are 0 (drop 2 t) ≡ true → slice_index t 0 ∷ slice_index t 1 ∷ 0 ∷ 0 ∷ [] ≡ t
 tail_bytes t l h =
-    let empty : all_are 0 (drop 2 t) ≡ true = (and_parts (nat_lt (slice_index t 1) 7) _ (and_parts (nat_lt 0 (slice_index t 0) && nat_le (slice_index t 0) 8) _ h).1).1 in
-    let z : replicate 2 0 ≡ drop 2 t = replicated_at 2 0 (drop 2 t) (simp length-drop (omega arith)) empty in
+    let z : replicate 2 0 ≡ drop 2 t = replicated_at 2 0 (drop 2 t) (simp length-drop (omega arith)) h in
     let e2 : 0 ≡ slice_index_or t 2 0 = ap (λ s. slice_index s 0) z ∙ get_or-drop 2 t 0 0 in
     let e3 : 0 ≡ slice_index_or t 3 0 = ap (λ s. slice_index s 1) z ∙ get_or-drop 2 t 1 0 in
     ap (λ x. slice_index t 0 ∷ slice_index t 1 ∷ x ∷ 0 ∷ []) e2 ∙ ap (λ x. slice_index t 0 ∷ slice_index t 1 ∷ slice_index t 2 ∷ x ∷ []) e3 ∙ four t l
+
+-- so does a tail that keeps its rule
+pub kept_zeros : (t : List ℕ) → week_tail t ≡ true → all_are 0 (drop 2 t) ≡ true
+kept_zeros t h = (and_parts (nat_lt (slice_index t 1) 7) _ (and_parts (nat_lt 0 (slice_index t 0) && nat_le (slice_index t 0) 8) _ h).1).1

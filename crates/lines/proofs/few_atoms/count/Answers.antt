@@ -1,9 +1,11 @@
-use Rattle.std.proofs.Common.{rules, tests}
-use Rattle.std.proofs.lemmas.Iterator.Consumers.{count_from_yields_List}
-use Rattle.plans.specs.Bits.{marked}
-use Rattle.lines.proofs.Members.{members_given}
+use Rattle.std.proofs.Common.{rules}
+use Rattle.lines.proofs.Members.{members_none, members_same, count_more}
 use Rattle.lines.proofs.few_atoms.count.Goals as goal
+use Rattle.lines.proofs.few_atoms.count.Goals.{then-is_marked, else-is_marked}
 
-pub returns : goal.returns
-returns c =
-    count_from_yields_List c.filter.result c.count.result c.count.ensures.ran (members_given _ (marked c.args.bits.now) (cc) c.filter.ensures.closure (λ x b q k. search (rules, tests)))
+pub loop-atom-init : goal.loop-atom-init
+loop-atom-init c = search (rules, members_none)
+
+pub loop-atom-preserved : goal.loop-atom-preserved
+loop-atom-preserved c =
+    elim c.if-is_marked.branch [ then-is_marked w ↦ search (rules, count_more) | else-is_marked w ↦ search (rules, members_same) ]

@@ -6,4 +6,5 @@ use Rattle.records.proofs.atoms.used_places.Goals as goal
 pub returns-clause-count : goal.returns-clause-count
 returns-clause-count c =
     let count : c.count.result ≡ count_by (λ x. ltb x 255) c.args.list.now = search rules in
-    count ∙ used_count c.args.list.now
+    let used = count ∙ used_count c.args.list.now in
+    search rules
